@@ -29,7 +29,7 @@ pub use terminals::{Terminals, check_terminals, terminal_nodes};
 
 // Handed on from the crates below.
 pub use dss_model::{
-    BankState, Blame, Bus, Capacitor, Class, Element, ElementName, Ends, FEMTO_PER_ONE, Items,
-    Line, Load, LoadKind, LoadModel, Loadshape, Mode, NodeAt, NodesAt, Options, ROOT_THREE,
+    BankState, Blame, Bus, Capacitor, Class, Connection, Element, ElementName, Ends, FEMTO_PER_ONE,
+    Items, Line, Load, LoadKind, LoadModel, Loadshape, Mode, NodeAt, NodesAt, Options, ROOT_THREE,
     TapPair, Term, TermFault, Text, Transformer, Vsource, Winding,
 };

@@ -7,7 +7,7 @@ use Rattle.fd_checking.specs.dss_ready.Passed.{PassedLaw}
 use Rattle.fd_checking.specs.dss_script.Said.{ended_by, said_of}
 use Rattle.fd_bench.specs.fd_outside.Answers.{Answer}
 use Rattle.fd_bench.specs.fd_outside.Files.{Files}
-use Rattle.fd_words.specs.Words.{Form, Solve, Cert, Check, Gen, Bench, Upgrade}
+use Rattle.fd_words.specs.Words.{Form, Solve, Cert, Check, Gen, Bench, Upgrade, Fault}
 use Rattle.fd_checking.specs.fd_certfile.Laws.{CertificateLaw}
 use Rattle.fd_checking.specs.fd_check.Checking.{after, due, open_solves}
 use Rattle.fd_checking.specs.fd_daily.Underway.{no_positions}
@@ -22,14 +22,16 @@ use Rattle.fd_checking.specs.fd_settle.Rounds.{AtEach, after_round}
 use Rattle.fd_checking.specs.fd_outcome.Events as event
 use Rattle.fd_checking.specs.fd_outcome.Settles.{Settle}
 use Rattle.fd_checking.specs.fd_outcome.Events.{Event, History, IfSettle, asked, settle, row}
-use Rattle.fd_checking.specs.fd_solving.Headline.{IsSolution, IsSolved, claims_of, machine_of}
+use Rattle.fd_checking.specs.fd_solving.Headline.{EnclosesAll, EnclosesAllSizes, IsSolution, IsSolved, claims_of, machine_of}
 use Rattle.fd_checking.specs.fd_solving.Scripts.{IsScriptHistory, first_standing}
 use Rattle.fd_checking.specs.fd_solving.SolvedLaw.{SolvedLaw}
 use Rattle.fd_app.specs.Meaning.{MeaningLaw}
-use Rattle.fd_app.specs.Promise.{AreTrue, IsPromised, IsTrue, outside_of}
-use Rattle.fd_app.specs.Rounds.{EachRound, HasEach, IsExact, MeetsEquations}
+use Rattle.fd_shorting.specs.StudiedLaw.{StudiedLaw}
+use Rattle.fd_shorting.specs.Studies.{IsStudy}
+use Rattle.fd_app.specs.Promise.{AreStudied, AreTrue, IsPromised, IsTrue, outside_of}
+use Rattle.fd_app.specs.Rounds.{EachRound, EnclosesLinear, HasEach, IsExact, MeetsEquations}
 use Rattle.fd_bench.specs.Bench.{feeder_files, feeder_name}
-use Rattle.fd_app.specs.Run.{IsFormHistory, RunsOver}
+use Rattle.fd_app.specs.Run.{IsFormHistory, RunsOver, kind_of}
 use Rattle.fd_app.proofs.Scripts.{cert_is_accepted}
 use Rattle.fd_app.proofs.Steadily.{script_steady}
 
@@ -56,6 +58,17 @@ each_round P f events all =
     (plant_at s.circuit s.hour) (machine_of s) (claims_of s) solved.solutions) e)
     events all
 
+-- so of each round of a short circuit
+each_studied : (P Q : CircuitView → ℕ → Positions → Claim → Type 0) → ((s : Settle) → IsStudy s → HasEach Q s)
+    → ((c : CircuitView) (hour : ℕ) (at : Positions) (m : Claim) → Q c hour at m → P c hour at m)
+    → (events : List Event) → All (IfSettle IsStudy) events → EachRound P events
+each_studied P Q of f events all =
+    All-weaker (IfSettle IsStudy) (IfSettle (HasEach P))
+    (λ e. if_settle IsStudy (HasEach P)
+    (λ s study. each_weaker (Q s.circuit s.hour) (P s.circuit s.hour) (λ at m. f s.circuit s.hour at m)
+    (plant_at s.circuit s.hour) (machine_of s) (claims_of s) (of s study)) e)
+    events all
+
 meets_equations : (c : CircuitView) (hour : ℕ) (at : Positions) (m : Claim) → IsSolution c hour at m → MeetsEquations c hour at m
 unfolding network_at
 meets_equations c hour at m is = record { meets = is.meets; most = λ row low. is.sound.mismatches_most row low }
@@ -69,9 +82,17 @@ is_exact c hour at m is = record {
   one_ball = is.one_ball;
 }
 
+studied_true : (events : List Event) → All (IfSettle IsStudy) events → AreStudied events
+studied_true events all = record {
+  equations = each_studied MeetsEquations IsSolution (λ s study. study.solved.solutions) meets_equations events all;
+  enclosed = each_studied EnclosesAll EnclosesAll (λ s study. study.encloses) (λ c hour at m h. h) events all;
+  sizes = each_studied EnclosesAllSizes EnclosesAllSizes (λ s study. study.sizes) (λ c hour at m h. h) events all;
+  exact = each_studied IsExact IsSolution (λ s study. study.solved.solutions) is_exact events all;
+}
+
 -- ---- a history
 
-module _ (solved : SolvedLaw) (passed : PassedLaw) (rules : RuleLaw) (certificates : CertificateLaw) (meaning : MeaningLaw) where
+module _ (studied : StudiedLaw) (solved : SolvedLaw) (passed : PassedLaw) (rules : RuleLaw) (certificates : CertificateLaw) (meaning : MeaningLaw) where
   script_true : (files : Files) (name : List ℕ) (h : History) → IsScriptHistory files (said_of files name) h
       → AreTrue (said_of files name) h.events
   script_true files name h is =
@@ -81,6 +102,7 @@ module _ (solved : SolvedLaw) (passed : PassedLaw) (rules : RuleLaw) (certificat
         equations = each_round MeetsEquations meets_equations h.events all;
         enclosed = each_round _ (λ c hour at m is. is.encloses) h.events all;
         sizes = each_round _ (λ c hour at m is. is.sizes) h.events all;
+        linear = each_round EnclosesLinear (λ c hour at m is. record { all = is.encloses_all; sizes = is.sizes_of_all }) h.events all;
         acts = script_steady passed files p.said (ended_by p.left) first_standing h is (recursion_from_All (IfSettle IsSolved) h.events all);
         exact = each_round IsExact is_exact h.events all;
       }
@@ -92,6 +114,8 @@ module _ (solved : SolvedLaw) (passed : PassedLaw) (rules : RuleLaw) (certificat
       (script_true files (chars file) h is, λ none. cert_is_accepted rules passed certificates solved files (chars file) h is none)
   history_true files (Some (Check script name)) h is = λ none. meaning files script name h is none
   history_true files (Some (Gen number sections)) h is = tt
+  history_true files (Some (Fault master bus kind)) h is =
+      studied_true h.events (studied files (chars master) (chars bus) (kind_of kind) h is)
   history_true files (Some (Upgrade name)) h is = λ none solved_of answer.
       upgrade_answers due after files (chars name) h is none (open_solves solved_of no_positions 0) answer
   history_true files (Some (Bench number sections)) h is = λ solving right. script_true (feeder_files number sections) (chars feeder_name) solving right

@@ -14,10 +14,11 @@ use Rattle.fd_checking.proofs.CallerLemmas.fd_solving.{one_script}
 use Rattle.fd_checking.proofs.CallerLemmas.{check_tells, one_check}
 use Rattle.fd_bench.specs.Bench.{script_written}
 use Rattle.fd_bench.proofs.CallerLemmas.{agrees_held, bench_tells, one_bench, script_tells}
-use Rattle.fd_words.specs.Words.{Form, Solve, Cert, Check, Gen, Bench, Upgrade}
+use Rattle.fd_words.specs.Words.{Form, Solve, Cert, Check, Gen, Bench, Upgrade, Fault}
+use Rattle.fd_shorting.proofs.CallerLemmas.{one_fault}
 use Rattle.fd_upgrade.proofs.CallerLemmas.{one_upgrade, upgrade_tells}
 use Rattle.fd_app.specs.Promise.{IsPromised, Outside, ToldLaw}
-use Rattle.fd_app.specs.Run.{AgreesIn, FormsLaw, IsFormHistory, RunsOver, style_of, tells_end}
+use Rattle.fd_app.specs.Run.{AgreesIn, FormsLaw, IsFormHistory, RunsOver, kind_of, style_of, tells_end}
 
 pub forms : FormsLaw
 forms files None = exactly_this (ended [] fault.Usage)
@@ -27,6 +28,7 @@ forms files (Some (Check script certificate)) = one_check files script certifica
 forms files (Some (Gen number sections)) = exactly_this (script_written number sections)
 forms files (Some (Bench number sections)) = one_bench number sections
 forms files (Some (Upgrade name)) = one_upgrade files (chars name)
+forms files (Some (Fault master bus kind)) = one_fault files (chars master) (chars master) (chars bus) (kind_of kind)
 
 -- ---- the text that tells an end
 
@@ -40,6 +42,7 @@ form_tells files (Some (Gen number sections)) h is =
     subst (λ (x : History). IsToldBy report true x.events x.end) (sym is) (script_tells number sections)
 form_tells files (Some (Bench number sections)) h is = bench_tells number sections h is
 form_tells files (Some (Upgrade name)) h is = upgrade_tells files (chars name) h is
+form_tells files (Some (Fault master bus kind)) h is = λ told none e. cc told
 
 -- memory runs out before anything is done
 module _ {L S : Type 0} (answers : L → List Answer) (taken : S → List ℕ) (calls : S → ℕ) where
@@ -73,6 +76,7 @@ agrees_in (Some (Check script name)) before now files agrees = agrees
 agrees_in (Some (Gen number sections)) before now files agrees = tt
 agrees_in (Some (Bench number sections)) before now files agrees = tt
 agrees_in (Some (Upgrade name)) before now files agrees = agrees
+agrees_in (Some (Fault master bus kind)) before now files agrees = agrees
 
 module _ {L S : Type 0} (answers : L → List Answer) (holds : L → Option Files) (taken : S → List ℕ)
     (calls : S → ℕ) where

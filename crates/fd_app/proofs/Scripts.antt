@@ -27,7 +27,6 @@ use Rattle.fd_checking.specs.fd_certfile.RuleLaws.{RuleLaw}
 use Rattle.fd_checking.specs.fd_certfile.Rules.{Broken, first_broken}
 use Rattle.fd_checking.specs.fd_certfile.Verdict.{AllHold, Answer, Due, IsAnswer, IsAnswerBy, accepted, by_due, refused, unless_broken, verdict}
 use Rattle.fd_checking.specs.fd_check.Checking.{Checking, after, due, open_solves}
-use Rattle.fd_checking.specs.fd_outcome.Calls.{certificate}
 use Rattle.fd_checking.specs.fd_outcome.Events as event
 use Rattle.fd_checking.specs.fd_outcome.Events.{Event, History, IfSettle, asked, settle, row}
 use Rattle.fd_checking.specs.fd_outcome.History.{IsHistory}

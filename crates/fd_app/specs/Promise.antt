@@ -6,7 +6,7 @@ use Rattle.fd_checking.specs.dss_model.Names.{bytes}
 use Rattle.fd_checking.specs.dss_script.Said.{Part, said_of}
 use Rattle.fd_bench.specs.fd_outside.Answers.{Answer as Told, IsLater, names_asked}
 use Rattle.fd_bench.specs.fd_outside.Files.{Files, held}
-use Rattle.fd_words.specs.Words.{Form, Solve, Cert, Check, Bench, Upgrade}
+use Rattle.fd_words.specs.Words.{Form, Solve, Cert, Check, Bench, Upgrade, Fault}
 use Rattle.fd_checking.specs.dss_circuit.Circuit.{CircuitView}
 use Rattle.fd_checking.specs.dss_model.declared.command.Blame.{Blame}
 use Rattle.fd_checking.specs.fd_certfile.Verdict.{Answer, IsAnswer}
@@ -15,13 +15,13 @@ use Rattle.fd_checking.specs.fd_daily.Underway.{no_positions}
 use Rattle.fd_checking.specs.fd_outcome.Calls.{Style, certificate, doing, report, names_read, texts_written}
 use Rattle.fd_checking.specs.fd_outcome.Done.{HasReadCause, IsDone, Made, failing, torn_bytes, torn_writes}
 use Rattle.fd_checking.specs.fd_outcome.Events.{Event, History}
-use Rattle.fd_checking.specs.fd_solving.Headline.{EnclosesOthers, EnclosesSizes}
+use Rattle.fd_checking.specs.fd_solving.Headline.{EnclosesAll, EnclosesAllSizes, EnclosesOthers, EnclosesSizes}
 use Rattle.fd_checking.specs.fd_solving.Scripts.{IsScriptHistory}
 use Rattle.fd_bench.specs.Bench.{feeder_files, feeder_name}
 use Rattle.fd_app.specs.Accepted.{AreAccepted}
 use Rattle.fd_app.specs.Meaning.{IsCertificateOf}
 use Rattle.fd_app.specs.Printed.{all_rounds, bytes_by}
-use Rattle.fd_app.specs.Rounds.{EachRound, IsExact, MeetsEquations}
+use Rattle.fd_app.specs.Rounds.{EachRound, EnclosesLinear, IsExact, MeetsEquations}
 use Rattle.fd_app.specs.Run.{AgreesIn, IsFormHistory, style_of, tells_end}
 use Rattle.fd_app.specs.Solves.{solves_of}
 use Rattle.fd_app.specs.Steady.{AreSteady}
@@ -48,12 +48,23 @@ pub record IsPrinted (o : Outside) (style : Style) (tells : Bool) (h : History) 
 
 -- The headline, of the events of a script: each printed state meets its circuit's equations within the printed
 -- mismatches; every state in the printed box that meets them as closely lies within the printed radii, with sizes from
--- low to high; and each act is the one that the queue yields from any such states, through all hours of all Solves.
+-- low to high, and where the equations are linear every state outside the box too; and each act is the one that the
+-- queue yields from any such states, through all hours of all Solves.
 pub record AreTrue (p : Part) (events : List Event) : Type 0 where
   pub equations : EachRound MeetsEquations events
   pub enclosed : EachRound EnclosesOthers events
   pub sizes : EachRound EnclosesSizes events
+  pub linear : EachRound EnclosesLinear events
   pub acts : AreSteady events (open_solves (solves_of p) no_positions 0)
+  pub exact : EachRound IsExact events
+
+-- Of a short circuit: the printed state meets the equations of the circuit of the short circuit within the printed
+-- mismatches; every state that meets them as closely, of whatever size and in no box, lies within the printed radii, with
+-- sizes from low to high, those of the currents of the fault among them.
+pub record AreStudied (events : List Event) : Type 0 where
+  pub equations : EachRound MeetsEquations events
+  pub enclosed : EachRound EnclosesAll events
+  pub sizes : EachRound EnclosesAllSizes events
   pub exact : EachRound IsExact events
 
 -- a certificate that is held and these bytes have the same answer, whatever Solves they are judged on
@@ -73,6 +84,7 @@ IsTrue files (Some (Bench number sections)) h = (solving : History)
     → IsScriptHistory (feeder_files number sections) (said_of (feeder_files number sections) (chars feeder_name)) solving
     → AreTrue (said_of (feeder_files number sections) (chars feeder_name)) solving.events
 IsTrue files (Some (Upgrade name)) h = h.end ≡ None → AnswerAlike (held files (bytes (chars name))) (bytes_by report h)
+IsTrue files (Some (Fault master bus kind)) h = AreStudied h.events
 IsTrue files other h = Unit {0}
 
 -- The words have one history over the files; it is printed, and what it says is true.

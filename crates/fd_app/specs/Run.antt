@@ -4,7 +4,9 @@ use Rattle.std.specs.Str.{chars}
 use Rattle.fd_bench.specs.fd_outside.Answers.{AgreesSince, Answer}
 use Rattle.fd_bench.specs.fd_outside.Files.{Files}
 use Rattle.fd_checking.specs.dss_script.Said.{said_of}
-use Rattle.fd_words.specs.Words.{Form, Solve, Cert, Check, Gen, Bench, Upgrade}
+use Rattle.fd_words.specs.Words.{Form, Solve, Cert, Check, Gen, Bench, Upgrade, Fault}
+use Rattle.fd_words.specs.declared.shorts.Short.{Short}
+use Rattle.fd_words.specs.declared.shorts.Short.TheVariants as short
 use Rattle.fd_checking.specs.fd_report.declared.faults.Fault.TheVariants as fault
 use Rattle.fd_checking.specs.fd_outcome.Calls.{Style, certificate, report}
 use Rattle.fd_checking.specs.fd_outcome.Events.{History, ended}
@@ -13,6 +15,10 @@ use Rattle.fd_checking.specs.fd_outcome.Work.{ExactlyOne}
 use Rattle.fd_checking.specs.fd_solving.Scripts.{IsScriptHistory}
 use Rattle.fd_checking.specs.Checks.{IsCheckHistory}
 use Rattle.fd_upgrade.specs.Upgrading.{IsUpgradeHistory}
+use Rattle.fd_shorting.specs.fd_fault.declared.kind.Kind.{Kind}
+use Rattle.fd_shorting.specs.fd_fault.declared.kind.Kind.TheVariants as kind
+use Rattle.fd_shorting.specs.Pages.{short_report}
+use Rattle.fd_shorting.specs.Shorting.{IsFaultHistory}
 use Rattle.fd_bench.specs.Bench.{IsBenchHistory, lines_alone, script_written}
 
 -- the files agree with what was answered in a call, where its form asks for a name
@@ -24,6 +30,7 @@ AgreesIn (Some (Check script name)) before now files = AgreesSince files before 
 AgreesIn (Some (Gen number sections)) before now files = Unit {0}
 AgreesIn (Some (Bench number sections)) before now files = Unit {0}
 AgreesIn (Some (Upgrade name)) before now files = AgreesSince files before now
+AgreesIn (Some (Fault master bus kind)) before now files = AgreesSince files before now
 
 abbrev pub style_of : Option Form → Style
 style_of None = report
@@ -33,12 +40,21 @@ style_of (Some (Check script name)) = report
 style_of (Some (Gen number sections)) = report
 style_of (Some (Bench number sections)) = lines_alone
 style_of (Some (Upgrade name)) = report
+style_of (Some (Fault master bus kind)) = short_report
 
 -- whether a text tells an end without a fault; `solve` may still run out of memory as it looks for a command behind the
--- last one
+-- last one, and `fault` behind its one settle
 abbrev pub tells_end : Option Form → Bool
 tells_end (Some (Solve file)) = false
+tells_end (Some (Fault master bus kind)) = false
 tells_end other = true
+
+-- the kind of short circuit that a word names
+abbrev pub kind_of : Short → Kind
+kind_of short.Lll = kind.Lll
+kind_of short.Lg1 = kind.Lg1
+kind_of short.Lg2 = kind.Lg2
+kind_of short.Lg3 = kind.Lg3
 
 -- the history of a command line; words that are no form are a fault
 abbrev pub IsFormHistory : Files → Option Form → History → Type 0
@@ -49,6 +65,8 @@ IsFormHistory files (Some (Check script name)) h = IsCheckHistory files (said_of
 IsFormHistory files (Some (Gen number sections)) h = h ≡ script_written number sections
 IsFormHistory files (Some (Bench number sections)) h = IsBenchHistory number sections h
 IsFormHistory files (Some (Upgrade name)) h = IsUpgradeHistory files (chars name) h
+IsFormHistory files (Some (Fault master bus kind)) h =
+    IsFaultHistory files (said_of files (chars master)) (chars master) (chars bus) (kind_of kind) h
 
 -- there is exactly one
 abbrev pub FormsLaw : Type 0

@@ -7,7 +7,7 @@ ghost use Rattle.fd_checking.specs.fd_outcome.Events.{History};
 ghost use Rattle.fd_checking.specs.fd_outcome.Laws.{IsDue};
 ghost use Rattle.fd_checking.specs.fd_outcome.Untold.{Answers, EndsAtRead};
 ghost use Rattle.fd_app.specs.Promise.{IsPromised, Outside, Promised, ToldLaw};
-ghost use Rattle.fd_app.specs.Run.{FormsLaw, IsFormHistory, RunsForm};
+ghost use Rattle.fd_app.specs.Run.{FormsLaw, IsFormHistory, RunsForm, kind_of};
 ghost use Rattle.fd_words.specs.Words.{form_of};
 
 use crate::meaning::accepted_law;
@@ -16,9 +16,22 @@ use fd_checking::{
     Certificate, Fault, Report, WANT_OF_MEMORY, certificate_law, check, passed_law, print_fault,
     rule_law, solve, solved_law,
 };
+use fd_shorting::{Kind, fault, studied_law};
 use fd_upgrade::upgrade;
-use fd_words::{Form, form_of};
+use fd_words::{Form, Short, form_of};
 use std::alloc::Global;
+
+// The kind of short circuit that a word names.
+fn kind_of(short: Short) -> Kind
+    ensures { result ≡ kind_of short }
+{
+    match short {
+        Short::Lll => Kind::Lll,
+        Short::Lg1 => Kind::Lg1,
+        Short::Lg2 => Kind::Lg2,
+        Short::Lg3 => Kind::Lg3,
+    }
+}
 
 // Does what the words say, without the laws of what it comes to.
 fn perform<L: Library, S: Sink>(alloc: Global, words: &[String], lib: &mut L, out: &mut S) -> u8
@@ -47,6 +60,9 @@ fn perform<L: Library, S: Sink>(alloc: Global, words: &[String], lib: &mut L, ou
         Some(Form::Gen { number, sections }) => write_script(alloc, number, sections, out),
         Some(Form::Bench { number, sections }) => bench(alloc, number, sections, out),
         Some(Form::Upgrade(certificate)) => upgrade(alloc, certificate, lib, out),
+        Some(Form::Fault { master, bus, kind }) => {
+            fault(alloc, master, bus, kind_of(kind), lib, out)
+        }
     }
 }
 
@@ -68,6 +84,7 @@ fn perform<L: Library, S: Sink>(alloc: Global, words: &[String], lib: &mut L, ou
 /// | 11 | the sample of a control is undecided over the ball of the state |
 /// | 12 | a control is due to act after as many acts as the options allow |
 /// | 13 | the certificate is refused |
+/// | 14 | a node of a short circuit isn't one of the circuit's |
 ///
 /// The words are those after the program's name. `solve FILE` does the commands of the script of that name, and prints
 /// the rounds of each Solve, with the acts of its controls, before the next command is read; `cert FILE` does the same,
@@ -75,11 +92,12 @@ fn perform<L: Library, S: Sink>(alloc: Global, words: &[String], lib: &mut L, ou
 /// the script, asks for the certificate behind the last one, and prints whether it is accepted. `gen NUMBER SECTIONS`
 /// prints the script of a feeder from a number, and `bench NUMBER SECTIONS` solves that script, of which it prints one
 /// record. `upgrade CERTIFICATE` prints a certificate of either version in the second, line for line, and judges no more
-/// than its grammar. Each record is handed to
-/// the sink by one write. A refusal is printed with its file, its line and its cause, a failed read with the file's
-/// name, a fault of the procedure with the first unknown that it is found at, a mismatch with its row, a state without
-/// a certificate with the unknown whose bound reaches one, an undecided sample with its control, and a refused certificate
-/// with its line and the rule that it breaks.
+/// than its grammar. `fault MASTER BUS KIND` does the commands of a script but solves nothing, and then solves the
+/// circuit of a short circuit at a bus once. Each record is handed to the sink by one write. A refusal is printed with
+/// its file, its line and its cause, a failed read with the file's name, a fault of the procedure with the first
+/// unknown that it is found at, a mismatch with its row, a state without a certificate with the unknown whose bound
+/// reaches one, an undecided sample with its control, and a refused certificate with its line and the rule that it
+/// breaks.
 pub fn run<L: Library, S: Sink>(alloc: Global, words: &[String], lib: &mut L, out: &mut S) -> u8
     // Over all files that agree with what the library answered in this call: the words have one history; its calls are
     // made, reads and writes in order, all of them with its end's status, or a front where memory runs out, a write
@@ -99,6 +117,7 @@ pub fn run<L: Library, S: Sink>(alloc: Global, words: &[String], lib: &mut L, ou
     ensures last { result ≡ 4 → EndsAtRead L.answers lib.old lib.new S.taken S.calls out.old out.new }
     ensures write { result ≡ 5 → Rose (S.faults out.old) (S.faults out.new) }
 {
+    studied_law();
     solved_law();
     passed_law();
     rule_law();

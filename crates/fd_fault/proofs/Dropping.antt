@@ -18,7 +18,7 @@ use Rattle.fd_fault.specs.declared.kind.Kind.{Kind}
 use Rattle.fd_fault.specs.declared.kind.Kind.TheVariants as kind
 use Rattle.fd_fault.specs.FaultCircuit.{first_missing, stays, stripped}
 
-given_or_not : {X P : Type 0} (o : Option X) → P → OnSome o P
+pub given_or_not : {X P : Type 0} (o : Option X) → P → OnSome o P
 given_or_not None p = tt
 given_or_not (Some x) p = p
 

@@ -26,3 +26,6 @@ pub use circuit::fault_circuit;
 pub use fault::CircuitFault;
 pub use kind::Kind;
 pub use laws::passed_law;
+
+// Handed on from the crates below.
+pub use dss_ready::{Bus, Element, Line, ModelFault, NodeName, Place, ReadyFault, ready};

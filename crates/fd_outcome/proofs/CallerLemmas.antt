@@ -31,12 +31,12 @@ use Rattle.fd_outcome.proofs.Histories.{one_history, one_value, does_command, st
 pub use Rattle.fd_outcome.proofs.Lists.{body-append}
 use Rattle.fd_outcome.proofs.Lists.{texts-append}
 use Rattle.fd_outcome.proofs.Printing.{append_is, due_of}
-use Rattle.fd_outcome.proofs.Told.{longer, not_all, last_behind, last_told, told_more}
+use Rattle.fd_outcome.proofs.Told.{last_behind, last_told, told_more}
 use Rattle.fd_outcome.proofs.Ways.{goes_on, ended_at, ended_at_read, names_lead, reads_alone, done_after, sees_then, sees_nothing, sees_names, sees_as}
 pub use Rattle.fd_outcome.proofs.Asked.{finishes_asked, finishes_short, finishes_unread}
 pub use Rattle.fd_outcome.proofs.Given.{gives_next, wrote_nothing, sees_none, or_false, has_text-append, behind-append, text_behind, nothing_behind}
 pub use Rattle.fd_outcome.proofs.Handed.{wrote_all, cut_by_memory, cut_by_fault, cut_before, fault_whole, fault_cut, wrote_then, printed_then, front_then, shorter}
-pub use Rattle.fd_outcome.proofs.Told.{IsToldBy, all_told, not_empty, told_fault, told_history}
+pub use Rattle.fd_outcome.proofs.Told.{IsToldBy, all_told, longer, not_all, not_empty, told_fault, told_history}
 pub use Rattle.fd_outcome.proofs.Ways.{made_after}
 use Rattle.fd_outcome.proofs.Given.{takes_wrote, still, called_all, reads_after, failing_behind, rose_since, cause_after}
 pub use Rattle.fd_certfile.proofs.CallerLemmas.fd_outside as fd_outside

@@ -27,6 +27,7 @@ statuses (fault.NotCertified unknown bound) = is_status 10 (λ e. omega (arith, 
 statuses (fault.Undecided control low high edge scale) = is_status 11 (λ e. omega (arith, e)) (λ e. omega (arith, e)) (λ e. omega (arith, e)) (omega arith)
 statuses (fault.ControlLimit acts) = is_status 12 (λ e. omega (arith, e)) (λ e. omega (arith, e)) (λ e. omega (arith, e)) (omega arith)
 statuses (fault.Certificate line broken) = is_status 13 (λ e. omega (arith, e)) (λ e. omega (arith, e)) (λ e. omega (arith, e)) (omega arith)
+statuses (fault.NoSuchNode node) = is_status 14 (λ e. omega (arith, e)) (λ e. omega (arith, e)) (λ e. omega (arith, e)) (omega arith)
 
 -- ---- exactly one
 

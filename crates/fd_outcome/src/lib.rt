@@ -27,5 +27,5 @@ pub use fd_certfile::{
 pub use fd_report::{
     Cause, Certified, Fault, Network, Position, Probe, RegProbe, Scale, Session, SessionFault,
     Solution, accepted_record, act_record, bank_record, base_record, name_at, probes, record,
-    records, said_law, said_room_law, size_text, status, tap_record,
+    records, said_law, said_room_law, short_records, size_text, status, tap_record,
 };

@@ -29,7 +29,8 @@ pub use summary::Summary;
 // Handed on from the crates below.
 pub use fd_bases::Layout;
 pub use fd_outcome::{
-    Cause, CertFileFault, Fault, Found, LibFault, Library, Record, Scale, Session, SessionFault,
-    Sink, SinkFault, accepted_record, emit, name_at, read_law, record, said_law, said_room_law,
-    size_text, status, status_law, upgrade,
+    Cause, CertFileFault, Certified, Fault, Found, LibFault, Library, Record, Round, Scale,
+    Session, SessionFault, Sink, SinkFault, Solution, accepted_record, emit, name_at, read_law,
+    record, said_law, said_room_law, short_records, size_text, status, status_law, upgrade,
 };
+pub use fd_settings::Mode;

@@ -135,7 +135,8 @@ record_kept d fields h =
     (counted_kept (counts fields 10) (node_to d fields) (open_kept d.current _ h.1 (λ panel o. node_kept d panel (node_in fields) h o)))
     (keeps_if (is_kind fields (codes "branch")) _ _ (counted_kept (counts fields 8) _ (passed_kept d (has_branch_form fields) h))
     (keeps_if (is_kind fields (codes "magnitude")) _ _ (counted_kept (counts fields 7) _ (passed_kept d (has_magnitude_form fields) h))
-    (other_kept d fields h))))
+    (keeps_if (is_kind fields (codes "short")) _ _ (counted_kept (counts fields 8) _ (passed_kept d (has_branch_form fields) h))
+    (other_kept d fields h)))))
 
 row_kept : (d : DraftView) (fields : List (List ℕ)) → Holds d → Keeps (row_to d fields)
 unfolding row_to

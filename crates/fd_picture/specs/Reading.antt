@@ -38,7 +38,8 @@ has_node_form fields = is_signed 6 (at fields 2) && is_signed 6 (at fields 3) &&
 unfoldable pub node_in : List (List ℕ) → Option Node
 node_in fields = if has_node_form fields then bare_node fields else None
 
--- the form of a branch: its element, its phase, the current's parts, their radius and both mismatches
+-- the form of a branch: its element, its phase, the current's parts, their radius and both mismatches; and of a phase of a
+-- short circuit: its bus, its node, the current's parts, their radius, and the least and the greatest size
 unfoldable pub has_branch_form : List (List ℕ) → Bool
 has_branch_form fields = is_name (at fields 1) && is_some (whole_of (at fields 2)) && is_signed 6 (at fields 3) && is_signed 6 (at fields 4)
     && is_decimal 6 (at fields 5) && is_decimal 6 (at fields 6) && is_decimal 6 (at fields 7)
@@ -166,6 +167,7 @@ record_to d fields =
     else if is_kind fields (codes "node") then counted (counts fields 10) (node_to d fields)
     else if is_kind fields (codes "branch") then counted (counts fields 8) (passed_over d (has_branch_form fields))
     else if is_kind fields (codes "magnitude") then counted (counts fields 7) (passed_over d (has_magnitude_form fields))
+    else if is_kind fields (codes "short") then counted (counts fields 8) (passed_over d (has_branch_form fields))
     else other_record d fields
 
 -- a record behind those of a draft

@@ -383,6 +383,9 @@ fn record_to(alloc: Global, draft: &mut Draft, row: &ByteRecord) -> Result<(), S
     } else if is_kind(row, b"magnitude") {
         counted(row.len() == 7)?;
         passed_over(draft, has_magnitude_form(row))
+    } else if is_kind(row, b"short") {
+        counted(row.len() == 8)?;
+        passed_over(draft, has_branch_form(row))
     } else {
         other_record(alloc, draft, row)
     }

@@ -17,7 +17,7 @@ use Rattle.fd_report.specs.declared.faults.Fault.{Fault}
 use Rattle.fd_report.specs.declared.faults.Fault.TheVariants as fault
 use Rattle.fd_report.specs.declared.faults.Scale.{Scale}
 use Rattle.fd_report.specs.declared.faults.Scale.TheVariants.{Micro, Nano}
-use Rattle.fd_report.specs.Names.{element_field}
+use Rattle.fd_report.specs.Names.{element_field, node_field}
 use Rattle.dss_script.specs.fd_decimal.Decimals.{size_text, micro_text, nano_text}
 
 -- ---- words
@@ -101,6 +101,7 @@ fields (fault.Undecided control low high edge scale) =
     codes "fault" ∷ codes "undecided" ∷ element_field control ∷ scaled_text scale low ∷ scaled_text scale high ∷ scaled_text scale edge ∷ []
 fields (fault.ControlLimit acts) = codes "fault" ∷ codes "control limit" ∷ decimal acts ∷ []
 fields (fault.Certificate line broken) = codes "fault" ∷ codes "certificate" ∷ decimal line ∷ rule_word broken ∷ []
+fields (fault.NoSuchNode node) = codes "fault" ∷ codes "no such node" ∷ node_field node ∷ []
 
 -- ---- its status
 
@@ -116,3 +117,4 @@ status (fault.NotCertified unknown bound) = 10
 status (fault.Undecided control low high edge scale) = 11
 status (fault.ControlLimit acts) = 12
 status (fault.Certificate line broken) = 13
+status (fault.NoSuchNode node) = 14

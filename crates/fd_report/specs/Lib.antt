@@ -9,6 +9,7 @@ pub mod Texts
 pub mod Bases
 pub mod Controls
 pub mod Accepted
+pub mod Shorts
 pub use Rattle.dss_script.specs.fd_decimal as fd_decimal
 pub use Rattle.dss_script.specs.dss_model as dss_model
 pub use Rattle.fd_sample.specs.dss_circuit as dss_circuit

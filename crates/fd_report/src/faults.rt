@@ -8,13 +8,13 @@ ghost use Rattle.fd_report.specs.Names.{name_at};
 ghost use Rattle.fd_report.specs.Faults.{bound_text, cause_text, fields, model_text, rule_word, scaled_text, script_text, status, stop_word};
 
 use crate::line::record_of;
-use crate::names::element_field;
+use crate::names::{element_field, node_field};
 use dss_script::{
     ElementName, ModelFault, Place, Record, ScriptCause, Text, micro_text, nano_text, size_text,
 };
 use fd_cert::Rule;
 use fd_inverse::Stop;
-use fd_sample::Layout;
+use fd_sample::{Layout, NodeName};
 use std::alloc::{AllocError, Global};
 
 /// Why a script is refused.
@@ -94,6 +94,10 @@ pub enum Fault {
     Certificate {
         line: u64,
         rule: Rule,
+    },
+    /// A short circuit is studied at this node, and the circuit has none such.
+    NoSuchNode {
+        node: NodeName,
     },
 }
 
@@ -355,6 +359,13 @@ fn certificate_record(alloc: Global, line: u64, rule: Rule) -> Result<Record, Al
     )
 }
 
+fn no_such_node_record(alloc: Global, node: &NodeName) -> Result<Record, AllocError>
+    ensures { IfOk result (λ r. r.bytes ≡ line_of (fields (Fault.NoSuchNode node.now))) }
+{
+    let node = node_field(alloc, node)?;
+    record_of(alloc, &[b"fault", b"no such node", node.as_slice()])
+}
+
 /// The record of a fault: its fields, as csv writes them.
 pub fn record(alloc: Global, fault: &Fault) -> Result<Record, AllocError>
     ensures { IfOk result (λ r. r.bytes ≡ line_of (fields fault.now)) }
@@ -381,6 +392,7 @@ pub fn record(alloc: Global, fault: &Fault) -> Result<Record, AllocError>
         } => undecided_record(alloc, control, *low, *high, *edge, *scale),
         Fault::ControlLimit { acts } => control_limit_record(alloc, *acts),
         Fault::Certificate { line, rule } => certificate_record(alloc, *line, *rule),
+        Fault::NoSuchNode { node } => no_such_node_record(alloc, node),
     }
 }
 
@@ -400,5 +412,6 @@ pub fn status(fault: &Fault) -> u8
         Fault::Undecided { .. } => 11,
         Fault::ControlLimit { .. } => 12,
         Fault::Certificate { .. } => 13,
+        Fault::NoSuchNode { .. } => 14,
     }
 }

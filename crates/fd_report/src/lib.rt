@@ -14,6 +14,7 @@
 //! - `report`: the records of a solution
 //! - `controls`: the records of acts, of taps and of banks
 //! - `bases`: the records of voltage bases
+//! - `shorts`: the records of a short circuit
 //! - `accepted`: the record of an accepted certificate
 //! - `faults`: the records of faults
 #![tactic(auto)]
@@ -26,6 +27,7 @@ mod laws;
 mod line;
 mod names;
 mod report;
+mod shorts;
 mod sizes;
 mod solution;
 mod texts;
@@ -36,6 +38,7 @@ pub use controls::{Position, act_record, bank_record, tap_record};
 pub use faults::{Cause, Fault, Scale, name_at, record, status};
 pub use laws::size_law;
 pub use report::records;
+pub use shorts::short_records;
 pub use solution::Solution;
 
 // Handed on from the crates below.

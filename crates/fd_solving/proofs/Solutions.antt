@@ -19,11 +19,12 @@ use Rattle.fd_daily.specs.fd_pattern.declared.layout.PlaceKind.TheVariants.{Node
 use Rattle.fd_pages.specs.dss_layout.Layout.{complex_count, layout_of, size_of}
 use Rattle.dss_commands.specs.dss_circuit.Circuit.{CircuitView}
 use Rattle.fd_daily.specs.fd_enclosure.Boxes.{IsInTrustBox, half_width, half_width_by}
-use Rattle.fd_daily.specs.fd_enclosure.Encloses.{EnclosureLaw, IsAlternative, IsEnclosure, IsWithinRadii}
+use Rattle.fd_daily.specs.fd_enclosure.Encloses.{EnclosureLaw, IsAlternative, IsEnclosure, IsWithinRadii, LinearLaw}
 use Rattle.fd_daily.specs.fd_enclosure.Sound.{Claim, claim_of, mismatch_at, mismatches_of, number_at, radii_of, radius_in}
 use Rattle.fd_daily.specs.fd_enclosure.Ties.{BallLaw, IsTied, TieLaw}
 use Rattle.fd_daily.proofs.CallerLemmas.fd_enclosure.{claim_is}
 use Rattle.fd_daily.specs.fd_queue.Controls.{Positions}
+use Rattle.fd_pages.specs.fd_report.Enclosed.{IsSizeBetween}
 use Rattle.fd_pages.specs.fd_report.Solutions.{IsOfSize, solution_of}
 use Rattle.fd_pages.proofs.CallerLemmas.fd_report.{sizes}
 use Rattle.fd_daily.specs.fd_settle.Compute.{IsComputed}
@@ -33,7 +34,7 @@ use Rattle.fd_daily.specs.fd_settle.Start.{IsSoundAt}
 use Rattle.fd_pages.specs.fd_outcome.Pages.{solution_in}
 use Rattle.fd_daily.specs.fd_settings.Hours.{hour_powers}
 use Rattle.fd_solving.specs.Boxes.{IsInBox, box_at, box_by, kind_at}
-use Rattle.fd_solving.specs.Headline.{EnclosesOthers, EnclosesSizes, HaveOneBall, HasItsBox, IsOtherState, IsSolution, MeetsRound, equation_count, equations_of, hour_network}
+use Rattle.fd_solving.specs.Headline.{EnclosesAll, EnclosesAllSizes, EnclosesOthers, EnclosesSizes, HaveOneBall, HasItsBox, IsLinear, IsOtherState, IsSolution, MeetsRound, equation_count, equations_of, hour_network}
 use Rattle.fd_pages.specs.fd_outcome.Settles.{round_of}
 use Rattle.fd_daily.specs.fd_queue.Machine.{Act}
 
@@ -125,12 +126,31 @@ module _ (c : CircuitView) (hour : ℕ) (at : Positions) (m : Claim)
   pub others : EnclosureLaw → EnclosesOthers c hour at m
   others law y a = record { over = a.over; within = λ i lt. near law y a i (subst (λ n. i < n) here.sound.centre.long lt) }
 
-  pub sizes_of_others : EnclosureLaw → EnclosesSizes c hour at m
-  sizes_of_others law y k other h =
+  -- the sizes of the voltages and currents of a state within the radii
+  sizes_within : (y : State) (k : ℕ) → IsWithinRadii (hour_network c hour at) m.centre m.radii y
+      → k < complex_count (layout_of c.elements) → IsSizeBetween (solution_of m.centre m.radii m.boxes m.mismatches) y k
+  sizes_within y k close h =
       let inside : k < (hour_network c hour at).complexes = omega (arith, h, network_complexes c (hour_powers c.elements hour) at) in
-      let close = near law y other in
       sizes (solution_of m.centre m.radii m.boxes m.mismatches) y k
       (close (2 * k) (omega (arith, inside, here.network.unknowns))) (close (2 * k + 1) (omega (arith, inside, here.network.unknowns)))
+
+  pub sizes_of_others : EnclosureLaw → EnclosesSizes c hour at m
+  sizes_of_others law y k other h = sizes_within y k (near law y other) h
+
+  -- where the equations are linear, so is each state of any size that meets the mismatches
+  near_all : LinearLaw → IsLinear c hour at → (y : State) → 0 < y.over → MeetsRound c hour at m y
+      → IsWithinRadii (hour_network c hour at) m.centre m.radii y
+  near_all law linear y over meets =
+      law (hour_network c hour at) m here.network linear here.sound y over (down (number_at m.mismatches) y over meets)
+
+  all_others : LinearLaw → IsLinear c hour at → EnclosesAll c hour at m
+  all_others law linear y over meets = record {
+    over = over;
+    within = λ i lt. near_all law linear y over meets i (subst (λ n. i < n) here.sound.centre.long lt);
+  }
+
+  sizes_of_all_others : LinearLaw → IsLinear c hour at → EnclosesAllSizes c hour at m
+  sizes_of_all_others law linear y k over meets h = sizes_within y k (near_all law linear y over meets) h
 
   pub is_of_size : (acts : List Act) → IsOfSize (size_of (layout_of c.elements)) (solution_in (round_of m acts))
   is_of_size acts =
@@ -200,14 +220,16 @@ module _ (c : CircuitView) (hour : ℕ) (at : Positions) (m : Claim)
           own_box (2 * k) first ∙ same.box ∙ sym (own_box (2 * k + 1) second),
         )
 
-    pub is_solution : EnclosureLaw → TieLaw → BallLaw → IsSolution c hour at m
-    is_solution law tie ball = record {
+    pub is_solution : EnclosureLaw → LinearLaw → TieLaw → BallLaw → IsSolution c hour at m
+    is_solution law linear tie ball = record {
       state = computed.point;
       certificate = computed.certificate;
       sound = here.sound;
       meets = meets_round law;
       encloses = others law;
       sizes = sizes_of_others law;
+      encloses_all = all_others linear;
+      sizes_of_all = sizes_of_all_others linear;
       tied = row_tied tie;
       boxes = its_box;
       one_ball = one_ball ball;

@@ -14,7 +14,7 @@ use Rattle.fd_daily.specs.fd_network.Laws.{NetworkLaw}
 use Rattle.fd_daily.specs.fd_settings.Hours.{HoursLaw, hour_powers}
 use Rattle.fd_daily.specs.fd_settings.Modest.{ModestLaw}
 use Rattle.fd_daily.specs.fd_settings.Positions.{NextLaw}
-use Rattle.fd_daily.specs.fd_enclosure.Encloses.{CertificateLaw, EnclosureLaw}
+use Rattle.fd_daily.specs.fd_enclosure.Encloses.{CertificateLaw, EnclosureLaw, LinearLaw}
 use Rattle.fd_daily.specs.fd_enclosure.Sound.{Claim}
 use Rattle.fd_daily.specs.fd_enclosure.Ties.{BallLaw, TieLaw}
 use Rattle.fd_daily.specs.fd_queue.Controls.{Positions}
@@ -52,6 +52,7 @@ pub record Laws : Type 0 where
   pub network : NetworkLaw
   pub certificate : CertificateLaw
   pub enclosure : EnclosureLaw
+  pub linear : LinearLaw
   pub tie : TieLaw
   pub ball : BallLaw
   pub hours : HoursLaw
@@ -149,7 +150,7 @@ module _ (laws : Laws) (c : CircuitView) (ready : HasPassed c) (circuit : IsWith
     solutions : AtEach (IsSolution c hour) plant first claims
     solutions =
         each_round (IsSoundAt c powers) (IsSolution c hour)
-        (λ at m h none computed. is_solution c hour at m h computed laws.enclosure laws.tie laws.ball) first is.rounds is.ending
+        (λ at m h none computed. is_solution c hour at m h computed laws.enclosure laws.linear laws.tie laws.ball) first is.rounds is.ending
         is.machine is.computed sound
 
     few : length (rounds_of is.rounds) < 2 ^ 32

@@ -1,5 +1,5 @@
 -- What a printed settle is.
-use Rattle.std.specs.Prelude.{◌≡◌, ◌+◌, ◌*◌, ◌<◌, ◌^◌, ℕ, List, length, map, Ok}
+use Rattle.std.specs.Prelude.{◌≡◌, ◌+◌, ◌*◌, ◌<◌, ◌^◌, ℕ, List, length, map, All, Ok}
 use Rattle.std.specs.List.{AllByRecursion}
 use Rattle.dss_commands.specs.fd_exact.Fractions.{Fraction}
 use Rattle.dss_commands.specs.fd_exact.States.{State}
@@ -13,6 +13,7 @@ use Rattle.fd_daily.specs.fd_pattern.Views.{NetworkView}
 use Rattle.fd_daily.specs.Hours.{time_of}
 use Rattle.fd_daily.specs.fd_settings.Hours.{hour_powers}
 use Rattle.fd_daily.specs.fd_devices.Scripted.{circuit_parts}
+use Rattle.fd_daily.specs.fd_enclosure.Encloses.{IsImpedance}
 use Rattle.fd_daily.specs.fd_enclosure.Sound.{Claim, IsSound, certificate_of, number_at}
 use Rattle.fd_daily.specs.fd_enclosure.Ties.{IsTied}
 use Rattle.fd_daily.specs.fd_inject.Procedure.{solution_of}
@@ -68,6 +69,22 @@ module _ (circuit : CircuitView) (hour : ℕ) (at : Positions) where
       (x : State) (k : ℕ) → IsOtherState m x → k < complex_count (layout_of circuit.elements)
       → IsSizeBetween (printed.solution_of m.centre m.radii m.boxes m.mismatches) x k
 
+  -- ---- states of any size, where no load is at constant power or constant current
+
+  -- each part load is of constant impedance, so that the equations are linear
+  abbrev pub IsLinear : Type 0
+  IsLinear = All IsImpedance hour_network.stamp.loads
+
+  -- every state of any denominator, in no box, that meets the round's mismatches is within the radii of the round's state
+  abbrev pub EnclosesAll : Claim → Type 0
+  EnclosesAll m = (x : State) → 0 < x.over → MeetsRound m x → IsInBall m.centre m.radii x
+
+  -- and the size of each voltage and of each current at it is from low to high
+  abbrev pub EnclosesAllSizes : Claim → Type 0
+  EnclosesAllSizes m =
+      (x : State) (k : ℕ) → 0 < x.over → MeetsRound m x → k < complex_count (layout_of circuit.elements)
+      → IsSizeBetween (printed.solution_of m.centre m.radii m.boxes m.mismatches) x k
+
   -- what is decided over the ball of the round's state is what the controls want at each of them
   abbrev pub DecidesAlike : Claim → Type 0
   DecidesAlike m =
@@ -95,8 +112,9 @@ module _ (circuit : CircuitView) (hour : ℕ) (at : Positions) where
   -- The state is the one that the procedure reaches, and its certificate is sound: its mismatches, at most 1,000, and
   -- its radii are exactly those of its network. The state meets the equations of the scripted circuit within the
   -- mismatches; every other state in its box that does is within the radii, and the sizes of its voltages and currents
-  -- are from low to high; and no mismatch is larger than its residual and the rounding of its summands. Box and radius
-  -- are printed once for both parts.
+  -- are from low to high; and no mismatch is larger than its residual and the rounding of its summands. Where the
+  -- equations are linear, so is every state outside the box that meets them. Box and radius are printed once for both
+  -- parts.
   pub record IsSolution (m : Claim) : Type 0 where
     pub state : solution_of hour_network (limits_of circuit.options) ≡ Ok (m.centre, m.inverse)
     pub certificate : certificate_of hour_network m.centre m.inverse ≡ Ok m
@@ -104,6 +122,8 @@ module _ (circuit : CircuitView) (hour : ℕ) (at : Positions) where
     pub meets : MeetsRound m (whole_state m.centre)
     pub encloses : EnclosesOthers m
     pub sizes : EnclosesSizes m
+    pub encloses_all : IsLinear → EnclosesAll m
+    pub sizes_of_all : IsLinear → EnclosesAllSizes m
     pub tied : AreTied m
     pub boxes : HasItsBox m
     pub one_ball : HaveOneBall m

@@ -27,7 +27,7 @@ use std::alloc::Global;
 
 /// Solves the hours of a Solve of a circuit that passed the tests, where its last Solve left these positions, and prints
 /// the records of each before the next is solved. The rounds of each are added to the tally. An answer ends the run.
-pub(crate) fn solve_hours<P: Page, S: Sink>(
+pub fn solve_hours<P: Page, S: Sink>(
     alloc: Global,
     circuit: &Circuit,
     at: &mut Positions,

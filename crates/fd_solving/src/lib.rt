@@ -39,7 +39,8 @@ mod step;
 mod tally;
 
 pub use answer::Answer;
-pub use laws::solved_law;
+pub use hours::solve_hours;
+pub use laws::{solution_law, solved_law};
 pub use line::Line;
 pub use print::{WANT_OF_MEMORY, print_end, print_fault};
 pub use script::run_script;
@@ -49,9 +50,10 @@ pub use step::answer_to;
 pub use tally::Tally;
 
 // Handed on from the crates below.
-pub use dss_commands::{Command, Text};
-pub use fd_daily::Rule;
+pub use dss_commands::{Circuit, Command, ModelError, Text, apply, limits_law};
+pub use fd_daily::{BankStates, Positions, Rule, Taps};
 pub use fd_pages::{
-    Cause, CertFileFault, Certificate, Fault, Found, LibFault, Library, Report, Session, Sink,
-    Summary, accepted_record, read_law, said_law, said_room_law, size_text, status_law, upgrade,
+    Cause, CertFileFault, Certificate, Certified, Fault, Found, Layout, LibFault, Library, Mode,
+    Page, Record, Report, Round, Session, Sink, Solution, SolvedHour, Summary, accepted_record,
+    read_law, said_law, said_room_law, short_records, size_text, status_law, upgrade,
 };

@@ -3,6 +3,7 @@ use Rattle.std.proofs.Common.{◌≡◌, ◌∙◌, ◌==◌, ◌&&◌, ◌||◌
 use Rattle.std.proofs.lemmas.Bool.Decides.{nat_tests}
 use Rattle.std.specs.Prelude.{find, fold, option_and_then}
 use Rattle.std.specs.List.{list_all}
+use Rattle.std.specs.Cmp.Lexicographic.{pointwise}
 use Rattle.std.specs.Option.{option_map_or}
 use Rattle.std.specs.Str.{bytes_eq}
 use Rattle.std.proofs.lemmas.Slice.Eq.{bytes_eq-Decides}
@@ -16,9 +17,11 @@ use Rattle.clap.specs.declared.parser.matches.Found.{Found as Matches}
 use Rattle.clap.proofs.OnLiterals.{clap_on_literals}
 use Rattle.clap.proofs.WalkLemmas.{find-map, raw_values-rows}
 use Rattle.fd_words.specs.declared.table.Kind.{Kind}
-use Rattle.fd_words.specs.declared.table.Kind.TheVariants.{File, Number, Sections}
+use Rattle.fd_words.specs.declared.table.Kind.TheVariants.{File, Number, Sections, Bus, Short}
 use Rattle.fd_words.specs.Lines.{form_of_rows, lines_app, words_rule}
 use Rattle.fd_words.specs.Numbers.{value_of, within_sections}
+use Rattle.fd_words.specs.Shorts.{short_of as kind_of}
+use Rattle.fd_words.specs.declared.shorts.Short.{Short as Kinds}
 use Rattle.fd_words.specs.Words.{Form, Row, Takes, Value, form_of, form_with, names_file, row_of, rows, value_as}
 use Rattle.fd_words.proofs.Digits.{number_named}
 
@@ -34,6 +37,14 @@ or_true : (a : Bool) → a || true ≡ true
 or_true true = refl
 or_true false = refl
 
+-- the first word of a row that a word isn't
+pub unlike : (first word : Text) → (word ≡ first → ⊥) → pointwise nat_eq first word ≡ false
+unlike first word differ = go (bytes_eq first word) refl
+  where
+    go : (t : Bool) → bytes_eq first word ≡ t → pointwise nat_eq first word ≡ false
+    go true e = absurd (differ (sym ((bytes_eq-Decides first word).0 e)))
+    go false e = e
+
 -- ---- the words of a row
 
 sections_named : (word : Text) (value : Option ℕ) (m : ℕ) → value_of 2 word ≡ value → option_and_then within_sections value ≡ Some m
@@ -45,11 +56,24 @@ file_named : (word : Text) (b : Bool) (v : Text) → names_file word ≡ b → (
 file_named word true v e some = e
 file_named word false v e some = absurd (cc some)
 
+kind_named : (b : ℕ) (bs : List ℕ) (v : Kinds) (t : Bool) → b == 45 ≡ t → kind_of (b ∷ bs) ≡ Some v → not t ≡ true
+kind_named b bs v false e some = refl
+kind_named b bs v true e some =
+    let is : b ≡ 45 = grind (arith, nat_tests) in
+    let none : None ≡ Some v = subst (λ (d : ℕ). kind_of (d ∷ bs) ≡ Some v) is some in
+    absurd (cc none)
+
+short_named : (word : Text) (v : Kinds) → kind_of word ≡ Some v → names_file word ≡ true
+short_named [] v some = absurd (cc some)
+short_named (b ∷ bs) v some = kind_named b bs v (b == 45) refl some
+
 -- a word of any kind may name a file
 named : (kind : Kind) (word : Text) (v : Value kind) → value_as kind word ≡ Some v → names_file word ≡ true
 named File word v e = file_named word _ v refl e
 named Number word v e = number_named 20 word v e
 named Sections word v e = sections_named word (value_of 2 word) v refl e
+named Bus word v e = file_named word _ v refl e
+named Short word v e = short_named word v e
 
 -- there are as many words as kinds, and each may name a file
 all_named : (kinds : List Kind) (form : Takes kinds) (words : List Text) → is_some (form_with kinds form words) ≡ true
@@ -115,12 +139,29 @@ two_taken name (b ∷ bs) (c ∷ cs) n m =
     let e = dashless c cs k in
     (rw (d.0, d.1, h, e.0, e.1, k) (refl {a = true}), rw (d.0, d.1, h, e.0, e.1, k) (refl {a = Some ((b ∷ bs) ∷ (c ∷ cs) ∷ [])}))
 
+three_taken : (name first second third : Text) → names_file first ≡ true → names_file second ≡ true → names_file third ≡ true
+    → IsTakenBy (line name 3) (first ∷ second ∷ third ∷ [])
+unfolding clap_on_literals
+three_taken name [] second third n m p = absurd (cc n)
+three_taken name (b ∷ bs) [] third n m p = absurd (cc m)
+three_taken name (b ∷ bs) (c ∷ cs) [] n m p = absurd (cc p)
+three_taken name (b ∷ bs) (c ∷ cs) (d ∷ ds) n m p =
+    let h = other b n in
+    let k = other c m in
+    let l = other d p in
+    let e = dashless b bs h in
+    let f = dashless c cs k in
+    let g = dashless d ds l in (
+      rw (e.0, e.1, h, f.0, f.1, k, g.0, g.1, l) (refl {a = true}),
+      rw (e.0, e.1, h, f.0, f.1, k, g.0, g.1, l) (refl {a = Some ((b ∷ bs) ∷ (c ∷ cs) ∷ (d ∷ ds) ∷ [])}),
+    )
+
 true_le : (m n : ℕ) → nat_le m n ≡ true → m ≤ n
 true_le m n h = grind (arith, nat_tests)
 
--- one word or two
+-- one word to three
 abbrev is_few : ℕ → Bool
-is_few count = nat_le 1 count && nat_le count 2
+is_few count = nat_le 1 count && nat_le count 3
 
 few_taken : (name : Text) (words : List Text) → is_few (length words) ≡ true → list_all names_file words ≡ true → IsTakenBy (line name (length words)) words
 few_taken name [] few all = absurd (cc few)
@@ -128,9 +169,13 @@ few_taken name (word ∷ []) few all = one_taken name word (and_split (names_fil
 few_taken name (first ∷ second ∷ []) few all =
     let rest = and_split (names_file first) _ all in
     two_taken name first second rest.0 (and_split (names_file second) true rest.1).0
-few_taken name (first ∷ second ∷ third ∷ words) few all =
-    let count = length (first ∷ second ∷ third ∷ words) in
-    let most : count ≤ 2 = true_le count 2 (and_split (nat_le 1 count) (nat_le count 2) few).1 in
+few_taken name (first ∷ second ∷ third ∷ []) few all =
+    let rest = and_split (names_file first) _ all in
+    let last = and_split (names_file second) _ rest.1 in
+    three_taken name first second third rest.0 last.0 (and_split (names_file third) true last.1).0
+few_taken name (first ∷ second ∷ third ∷ fourth ∷ words) few all =
+    let count = length (first ∷ second ∷ third ∷ fourth ∷ words) in
+    let most : count ≤ 3 = true_le count 3 (and_split (nat_le 1 count) (nat_le count 3) few).1 in
     absurd (omega arith)
 
 -- ---- the lines

@@ -1,3 +1,4 @@
 pub mod Numbers
+pub mod Shorts
 pub mod Words
 pub mod Lines

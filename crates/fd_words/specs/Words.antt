@@ -3,8 +3,10 @@ use Rattle.std.specs.Prelude.{ℕ, ◌≡◌, ◌≤◌, ◌==◌, not, Bool, fa
 use Rattle.std.specs.Borrow.{Bor}
 use Rattle.std.specs.Cmp.Lexicographic.{pointwise}
 use Rattle.fd_words.specs.Numbers.{number_of, sections_of}
+use Rattle.fd_words.specs.Shorts.{short_of}
+use Rattle.fd_words.specs.declared.shorts.Short.{Short as Kinds}
 use Rattle.fd_words.specs.declared.table.Kind.{Kind}
-use Rattle.fd_words.specs.declared.table.Kind.TheVariants.{File, Number, Sections}
+use Rattle.fd_words.specs.declared.table.Kind.TheVariants.{File, Number, Sections, Bus, Short}
 use Rattle.fd_words.specs.declared.words.Form.{Form as Words}
 use Rattle.fd_words.specs.declared.words.Form.TheVariants as words
 
@@ -21,8 +23,10 @@ pub data Form : Type 0 where
   Bench : ℕ → ℕ → Form
   -- `upgrade CERTIFICATE`
   Upgrade : List ℕ → Form
+  -- `fault MASTER BUS KIND`
+  Fault : List ℕ → List ℕ → Kinds → Form
 
--- whether a word may name a file: it isn't empty and doesn't start with a dash
+-- whether a word may name a file or a bus: it isn't empty and doesn't start with a dash
 abbrev pub names_file : List ℕ → Bool
 names_file [] = false
 names_file (byte ∷ bytes) = not (byte == 45)
@@ -32,11 +36,15 @@ abbrev pub Value : Kind → Type 0
 Value File = List ℕ
 Value Number = ℕ
 Value Sections = ℕ
+Value Bus = List ℕ
+Value Short = Kinds
 
 abbrev pub value_as : (kind : Kind) → List ℕ → Option (Value kind)
 value_as File word = if names_file word then Some word else None
 value_as Number word = number_of word
 value_as Sections word = sections_of word
+value_as Bus word = if names_file word then Some word else None
+value_as Short word = short_of word
 
 -- a form of values of these kinds
 abbrev pub Takes : List Kind → Type 0
@@ -56,6 +64,7 @@ rows = record { word = codes "solve"; kinds = File ∷ []; form = Solve }
     ∷ record { word = codes "gen"; kinds = Number ∷ Sections ∷ []; form = Gen }
     ∷ record { word = codes "bench"; kinds = Number ∷ Sections ∷ []; form = Bench }
     ∷ record { word = codes "upgrade"; kinds = File ∷ []; form = Upgrade }
+    ∷ record { word = codes "fault"; kinds = File ∷ Bus ∷ Short ∷ []; form = Fault }
     ∷ []
 
 -- a row's word and kinds
@@ -93,6 +102,7 @@ form_in (words.Check script name) = Check script.now name.now
 form_in (words.Gen number sections) = Gen number sections
 form_in (words.Bench number sections) = Bench number sections
 form_in (words.Upgrade name) = Upgrade name.now
+form_in (words.Fault master bus kind) = Fault master.now bus.now kind
 
 -- a feeder has a section
 abbrev pub has_sections : Words → Type 0

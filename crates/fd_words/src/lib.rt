@@ -6,20 +6,24 @@
 //! It refuses no form but for want of memory, and its values are those words. A new form is a row here, a row in
 //! `specs/Words`, and an arm in `lines` that makes its value.
 //!
-//! In `specs/`, `Words` has the table and what it makes of words, `Numbers` the numbers among the words, and `Lines` the
-//! command and what its matches come to. `form_of` answers exactly the form; memory runs out only where there is one.
+//! In `specs/`, `Words` has the table and what it makes of words, `Numbers` the numbers among the words, `Shorts` the
+//! kinds of short circuits, and `Lines` the command and what its matches come to. `form_of` answers exactly the form;
+//! memory runs out only where there is one.
 //!
 //! - `table`: the rows
 //! - `words`: the forms, and `form_of`
 //! - `usage`: whether words are a form
 //! - `numbers`: the numbers among the words
+//! - `shorts`: the kinds of short circuits among the words
 //! - `lines`: the command, and its matches as a form
 #![tactic(auto)]
 
 mod lines;
 mod numbers;
+mod shorts;
 mod table;
 mod usage;
 mod words;
 
+pub use shorts::Short;
 pub use words::{Form, form_of};

@@ -8,8 +8,9 @@ ghost use Rattle.fd_words.specs.Lines.{form_of_rows, no_lines, with_line, words_
 ghost use Rattle.fd_words.specs.Words.{form_in, form_of, has_sections};
 
 use crate::numbers::{number_of, sections_of};
+use crate::shorts::short_of;
 use crate::table::{Kind, Row};
-use crate::usage::file_of;
+use crate::usage::{bus_of, file_of};
 use crate::words::Form;
 use clap::{Arg, ArgAction, ArgMatches, Command};
 use std::alloc::{AllocError, Global};
@@ -87,6 +88,14 @@ fn form_of_words<'a>(name: &str, words: &[&'a str]) -> Option<Form<'a>>
         },
         "upgrade" => match words {
             [certificate] => Some(Form::Upgrade(file_of(certificate)?)),
+            _ => None,
+        },
+        "fault" => match words {
+            [master, bus, kind] => Some(Form::Fault {
+                master: file_of(master)?,
+                bus: bus_of(bus)?,
+                kind: short_of(kind)?,
+            }),
             _ => None,
         },
         _ => None,

@@ -1,5 +1,5 @@
 // The forms of a command line as a table.
-use Kind::{File, Number, Sections};
+use Kind::{Bus, File, Number, Sections, Short};
 
 /// What a word behind the first may be.
 #[derive(Clone, Copy, Drop)]
@@ -10,16 +10,21 @@ pub enum Kind {
     Number,
     /// A number of sections.
     Sections,
+    /// A bus: not empty, and not of a first dash.
+    Bus,
+    /// A kind of short circuit.
+    Short,
 }
 
 /// A form: its first word, and the kinds of the words behind it.
 pub(crate) type Row = (&'static str, &'static [Kind]);
 
-pub(crate) const ROWS: [Row; 6] = [
+pub(crate) const ROWS: [Row; 7] = [
     ("solve", &[File]),
     ("cert", &[File]),
     ("check", &[File, File]),
     ("gen", &[Number, Sections]),
     ("bench", &[Number, Sections]),
     ("upgrade", &[File]),
+    ("fault", &[File, Bus, Short]),
 ];

@@ -7,6 +7,7 @@ ghost use Rattle.fd_words.specs.declared.table.Kind.TheVariants as Kind;
 ghost use Rattle.fd_words.specs.Words.{IsTable, form_of, names_file, value_as};
 
 use crate::numbers::{number_of, sections_of};
+use crate::shorts::short_of;
 use crate::table::{Kind, ROWS, Row};
 
 fn names_file(word: &str) -> bool
@@ -26,6 +27,8 @@ fn is_word(kind: Kind, word: &str) -> bool
         Kind::File => file_of(word).is_some(),
         Kind::Number => number_of(word).is_some(),
         Kind::Sections => sections_of(word).is_some(),
+        Kind::Bus => bus_of(word).is_some(),
+        Kind::Short => short_of(word).is_some(),
     }
 }
 
@@ -51,6 +54,13 @@ fn row_of<'a>(rows: &'a [Row], word: &str) -> Option<&'a Row>
 /// The file that a word names.
 pub(crate) fn file_of<'a>(word: &'a str) -> Option<&'a str>
     ensures { option_map (λ file. file.now) result ≡ value_as Kind.File word.now }
+{
+    if names_file(word) { Some(word) } else { None }
+}
+
+/// The bus that a word names.
+pub(crate) fn bus_of<'a>(word: &'a str) -> Option<&'a str>
+    ensures { option_map (λ bus. bus.now) result ≡ value_as Kind.Bus word.now }
 {
     if names_file(word) { Some(word) } else { None }
 }

@@ -4,6 +4,7 @@ ghost use Rattle.std.specs.Option.{option_map};
 ghost use Rattle.fd_words.specs.Words.{form_in, form_of, has_sections};
 
 use crate::lines::{command, form_of_matches};
+use crate::shorts::Short;
 use crate::table::ROWS;
 use crate::usage::is_form;
 use clap::error::ErrorKind;
@@ -16,10 +17,22 @@ pub enum Form<'a> {
     Cert(&'a str),
     Check(&'a str, &'a str),
     /// The script of a feeder of so many sections from a number.
-    Gen { number: u64, sections: u32 },
-    Bench { number: u64, sections: u32 },
+    Gen {
+        number: u64,
+        sections: u32,
+    },
+    Bench {
+        number: u64,
+        sections: u32,
+    },
     /// A certificate of either version, to be written in the second.
     Upgrade(&'a str),
+    /// A short circuit of a kind at a bus of the circuit of a script.
+    Fault {
+        master: &'a str,
+        bus: &'a str,
+        kind: Short,
+    },
 }
 
 // The form that the command makes of words that are one.

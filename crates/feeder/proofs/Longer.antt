@@ -1,4 +1,4 @@
--- Four words are no form of a command line, and more are none either.
+-- Five words are no form of a command line, and more are none either.
 use Rattle.std.proofs.Common.{◌≡◌, ◌∙◌, ◌&&◌, ◌+◌, ℕ, List, [], ◌∷◌, map, drop, Bool, true, false, Option, Some, None, nat_eq, refl, sym, ap, cond, arith}
 use Rattle.std.specs.Prelude.{find, option_and_then}
 use Rattle.std.specs.Cmp.Lexicographic.{pointwise}
@@ -54,8 +54,8 @@ module _ (words : List (List ℕ)) where
       go true rest = too_long row.kinds row.form words (first_of (is_longer row.kinds words) (all_longer list) all)
       go false rest = rest
 
-four_words : (a b c d : List ℕ) (more : List (List ℕ)) → form_of (a ∷ b ∷ c ∷ d ∷ more) ≡ None
-four_words a b c d more = in_none (b ∷ c ∷ d ∷ more) (λ row. pointwise nat_eq row.word a) rows refl
+five_words : (a b c d e : List ℕ) (more : List (List ℕ)) → form_of (a ∷ b ∷ c ∷ d ∷ e ∷ more) ≡ None
+five_words a b c d e more = in_none (b ∷ c ∷ d ∷ e ∷ more) (λ row. pointwise nat_eq row.word a) rows refl
 
 -- ---- what an iterator over the words gives
 
@@ -65,12 +65,14 @@ pub behind_first : {X Z : Type 0} (s t : IntoIter X Z) (found : Option X) (more 
 behind_first s t None more steps longer = absurd (omega (arith, steps.1, longer))
 behind_first s t (Some x) more steps longer = ap (drop 1) steps.0
 
--- so the four words of a command line of more have its form
-pub four_are_enough : {X : Type 0} (text : X → List ℕ) (all : List X) (one two three four : List X) (a b c d : X)
-    → drop 1 all ≡ one → one ≡ a ∷ two → two ≡ b ∷ three → three ≡ c ∷ four → (rest : List X) → four ≡ d ∷ rest
-    → form_of (map text (a ∷ b ∷ c ∷ d ∷ [])) ≡ form_of (map text (drop 1 all))
-four_are_enough text all one two three four a b c d behind is_one is_two is_three rest is_four =
-    let items : drop 1 all ≡ a ∷ b ∷ c ∷ d ∷ rest =
-    behind ∙ is_one ∙ ap (λ l. a ∷ l) is_two ∙ ap (λ l. a ∷ b ∷ l) is_three ∙ ap (λ l. a ∷ b ∷ c ∷ l) is_four in
-    four_words (text a) (text b) (text c) (text d) [] ∙ sym (four_words (text a) (text b) (text c) (text d) (map text rest))
-    ∙ ap (λ l. form_of (map text l)) (sym items)
+-- so the five words of a command line of more have its form
+pub five_are_enough : {X : Type 0} (text : X → List ℕ) (all : List X) (one two three four five : List X) (a b c d e : X)
+    → drop 1 all ≡ one → one ≡ a ∷ two → two ≡ b ∷ three → three ≡ c ∷ four → four ≡ d ∷ five → (rest : List X)
+    → five ≡ e ∷ rest
+    → form_of (map text (a ∷ b ∷ c ∷ d ∷ e ∷ [])) ≡ form_of (map text (drop 1 all))
+five_are_enough text all one two three four five a b c d e behind is_one is_two is_three is_four rest is_five =
+    let items : drop 1 all ≡ a ∷ b ∷ c ∷ d ∷ e ∷ rest =
+    behind ∙ is_one ∙ ap (λ l. a ∷ l) is_two ∙ ap (λ l. a ∷ b ∷ l) is_three ∙ ap (λ l. a ∷ b ∷ c ∷ l) is_four
+    ∙ ap (λ l. a ∷ b ∷ c ∷ d ∷ l) is_five in
+    five_words (text a) (text b) (text c) (text d) (text e) []
+    ∙ sym (five_words (text a) (text b) (text c) (text d) (text e) (map text rest)) ∙ ap (λ l. form_of (map text l)) (sym items)

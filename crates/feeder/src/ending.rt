@@ -23,7 +23,7 @@ fn run_words<L: Library, S: Sink>(alloc: Global, words: &[String], lib: &mut L, 
     run(alloc, words, lib, out)
 }
 
-// Does what the words behind the program's name say. No form has more than three, so a fourth is enough to know.
+// Does what the words behind the program's name say. No form has more than four, so a fifth is enough to know.
 fn do_words<L: Library, S: Sink>(alloc: Global, mut args: Args, lib: &mut L, out: &mut S) -> u8
     ensures { IsRun L.answers L.holds S.faults S.taken S.calls lib.old lib.new out.old out.new
         (form_of (map string_bytes (drop 1 (into_iter_items args)))) result }
@@ -41,7 +41,10 @@ fn do_words<L: Library, S: Sink>(alloc: Global, mut args: Args, lib: &mut L, out
     let Some(fourth) = args.next() else {
         return run_words(alloc, &[first, second, third], lib, out);
     };
-    run_words(alloc, &[first, second, third, fourth], lib, out)
+    let Some(fifth) = args.next() else {
+        return run_words(alloc, &[first, second, third, fourth], lib, out);
+    };
+    run_words(alloc, &[first, second, third, fourth, fifth], lib, out)
 }
 
 // Does what a command line says, and answers the exit status. Words that are no text are handed on as none.

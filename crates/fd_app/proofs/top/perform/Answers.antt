@@ -8,7 +8,7 @@ use Rattle.fd_checking.proofs.CallerLemmas.fd_outcome.{fault_alone, fault_answer
 use Rattle.fd_bench.specs.Bench.{IsBenchHistory, lines_alone, script_written}
 use Rattle.fd_bench.proofs.CallerLemmas.{alone_runs, printed_alone}
 use Rattle.fd_words.specs.declared.words.Form.{Form as Words}
-use Rattle.fd_words.specs.Words.{Cert, Check, Solve, form_in, form_of, Bench, Gen, Upgrade}
+use Rattle.fd_words.specs.Words.{Cert, Check, Solve, form_in, form_of, Bench, Fault, Gen, Upgrade}
 use Rattle.fd_app.proofs.Runs.{form_short}
 use Rattle.fd_app.proofs.top.perform.Goals as goal
 
@@ -154,3 +154,14 @@ returns-in-Some-Upgrade-clause-run g c files =
 
 pub returns-in-Some-Upgrade-clause-usage : goal.returns-in-Some-Upgrade-clause-usage
 returns-in-Some-Upgrade-clause-usage g c two = absurd (c.upgrade.ensures.untold.usage two)
+
+pub returns-in-Some-Fault-clause-run : goal.returns-in-Some-Fault-clause-run
+returns-in-Some-Fault-clause-run g c files =
+    let form : form_of (map string_bytes c.args.words.now)
+    ≡ Some (Fault c.in-Some-Fault.master.now c.in-Some-Fault.bus.now c.in-Some-Fault.kind) =
+    sym c.in-Ok.ensures.form ∙ ap (option_map form_in) c.in-Some-Fault.is
+    ∙ ap (λ (w : Words). Some (form_in w)) (rw c.in-Some-Fault.is at c.in-Some-Fault.field-0-is) in
+    rw (form, sym c.kind_of.ensures) (c.fault.ensures.run files)
+
+pub returns-in-Some-Fault-clause-usage : goal.returns-in-Some-Fault-clause-usage
+returns-in-Some-Fault-clause-usage g c two = absurd (c.fault.ensures.untold.usage two)

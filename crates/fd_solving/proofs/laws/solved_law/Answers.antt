@@ -7,6 +7,7 @@ returns c = all_solved (record {
   network = c.network_law.ensures;
   certificate = c.certificate_law.ensures;
   enclosure = c.enclosure_law.ensures;
+  linear = c.linear_law.ensures;
   tie = c.tie_law.ensures;
   ball = c.ball_law.ensures;
   hours = c.hours_law.ensures;

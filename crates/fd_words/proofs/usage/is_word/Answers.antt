@@ -17,3 +17,11 @@ returns-in-Number c = subst (λ kind. c.is_some-in-Number.result ≡ is_some (va
 
 pub returns-in-Sections : goal.returns-in-Sections
 returns-in-Sections c = subst (λ kind. c.is_some-in-Sections.result ≡ is_some (value_as kind c.args.word.now)) (sym c.in-Sections.is) (search rules)
+
+pub returns-in-Bus : goal.returns-in-Bus
+returns-in-Bus c =
+    subst (λ kind. c.is_some-in-Bus.result ≡ is_some (value_as kind c.args.word.now)) (sym c.in-Bus.is)
+    (c.is_some-in-Bus.ensures ∙ some_as c.bus_of.result ∙ ap is_some c.bus_of.ensures)
+
+pub returns-in-Short : goal.returns-in-Short
+returns-in-Short c = subst (λ kind. c.is_some-in-Short.result ≡ is_some (value_as kind c.args.word.now)) (sym c.in-Short.is) (search rules)

@@ -1,0 +1,2 @@
+-- Lemmas that callers cite.
+pub use Rattle.fd_shorting.proofs.Only.{one_fault}
