@@ -73,11 +73,13 @@ pub enum Mode {
     Daily,
 }
 
-/// Whether controls act.
+/// Whether controls act, and how: in static mode the time stands still within a settle; in time mode it goes on with the
+/// hours of a Solve, and an entry of the queue acts at the first hour that isn't before its time.
 #[derive(Clone, Copy)]
 pub enum ControlMode {
     Static,
     Off,
+    Time,
 }
 
 /// A step of one hour, in the three ways in which it may be written.

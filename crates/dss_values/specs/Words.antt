@@ -39,7 +39,7 @@ abbrev pub modes : List (List ℕ × Mode)
 modes = (codes "snap", mode.Snapshot) ∷ (codes "snapshot", mode.Snapshot) ∷ (codes "daily", mode.Daily) ∷ []
 
 abbrev pub control_modes : List (List ℕ × ControlMode)
-control_modes = (codes "static", control.Static) ∷ (codes "off", control.Off) ∷ []
+control_modes = (codes "static", control.Static) ∷ (codes "off", control.Off) ∷ (codes "time", control.Time) ∷ []
 
 abbrev pub step_sizes : List (List ℕ × StepSize)
 step_sizes = (codes "1h", step.Hour) ∷ (codes "60m", step.Minutes) ∷ (codes "3600", step.Seconds) ∷ []

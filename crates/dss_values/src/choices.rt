@@ -55,9 +55,10 @@ const MODES: [(&str, Mode); 3] = [
     ("daily", Mode::Daily),
 ];
 
-const CONTROL_MODES: [(&str, ControlMode); 2] = [
+const CONTROL_MODES: [(&str, ControlMode); 3] = [
     ("static", ControlMode::Static),
     ("off", ControlMode::Off),
+    ("time", ControlMode::Time),
 ];
 
 const STEP_SIZES: [(&str, StepSize); 3] = [
@@ -115,7 +116,7 @@ pub fn solve_mode(alloc: Global, pair: &Pair) -> Result<Mode, ModelError>
     choice(alloc, &MODES, ModelFault::BadValue, pair)
 }
 
-/// `static` or `off`; any other word is unsupported.
+/// `static`, `off` or `time`; any other word is unsupported.
 pub fn control_mode(alloc: Global, pair: &Pair) -> Result<ControlMode, ModelError>
     ensures { Gives (λ c. c) result (choice_in fault.Unsupported control_modes pair.now) }
 {

@@ -1,5 +1,5 @@
 -- The blocks of an accepted certificate are certified, whatever states are chosen.
-use Rattle.std.proofs.Common.{◌≡◌, ◌∙◌, ℕ, ◌<◌, ◌≤◌, ℤ, pos, ◌-ℤ◌, ◌*ℤ◌, nat_abs, List, [], ◌∷◌, map, Option, All, arith, refl, sym, ap, subst}
+use Rattle.std.proofs.Common.{◌≡◌, ◌∙◌, ℕ, ◌<◌, ◌≤◌, ℤ, pos, ◌-ℤ◌, ◌*ℤ◌, nat_abs, List, [], ◌∷◌, map, All, arith, refl, sym, ap, subst}
 use Rattle.std.proofs.lemmas.Int.{ints}
 use Rattle.std.proofs.lemmas.List.Elements.{All-from_get_or, All-head, All-nil, All-tail}
 use Rattle.std.proofs.lemmas.Simd.{map-map}
@@ -13,18 +13,21 @@ use Rattle.fd_checking.specs.dss_layout.Layout.{LayoutView, layout_of}
 use Rattle.fd_checking.specs.fd_enclosure.Encloses.{EnclosureLaw}
 use Rattle.fd_checking.specs.fd_enclosure.Sound.{Claim}
 use Rattle.fd_checking.specs.fd_queue.Controls.{Positions}
+use Rattle.fd_checking.specs.fd_queue.Machine.{Machine, hour_begun}
+use Rattle.fd_checking.specs.fd_queue.declared.timing.Timing.{Timing}
+use Rattle.fd_checking.specs.fd_queue.declared.timing.Timing.TheVariants as timing
 use Rattle.fd_checking.specs.fd_sample.Decided.{sample_over}
 use Rattle.fd_checking.specs.fd_settings.Hours.{HoursLaw, hour_powers}
 use Rattle.fd_checking.specs.fd_settings.Modest.{ModestLaw}
 use Rattle.fd_checking.specs.fd_settings.Positions.{NextLaw}
 use Rattle.fd_checking.specs.fd_settle.Kept.{IsMachineOf, KeptLaw, SoundAtLaw}
-use Rattle.fd_checking.specs.fd_settle.Plant.{controls_in, setup_of}
+use Rattle.fd_checking.specs.fd_settle.Plant.{controls_in, setup_of, timing_of}
 use Rattle.fd_checking.specs.fd_settle.Rounds.{left_by}
 use Rattle.fd_checking.specs.fd_settle.Sampling.{Decided, Sampling, Unclear, look_over, sampling_of}
 use Rattle.fd_checking.specs.fd_settle.Settle.{Ends, Moves, Outcome, outcome_of}
 use Rattle.fd_checking.specs.fd_settle.Start.{ArePositions, IsSoundAt}
-use Rattle.fd_checking.specs.fd_daily.Day.{no_openings}
-use Rattle.fd_checking.specs.fd_daily.Hours.{hours_of}
+use Rattle.fd_checking.specs.fd_daily.Day.{before_first}
+use Rattle.fd_checking.specs.fd_daily.Hours.{hours_of, time_of}
 use Rattle.fd_checking.specs.fd_certfile.Blocks.{Block, Part}
 use Rattle.fd_checking.specs.fd_certfile.Certificates.{Certificate, ends, gives, refuses, trails}
 use Rattle.fd_checking.specs.fd_certfile.Rules.{ball_of, moves}
@@ -64,6 +67,15 @@ own_box layout c place low kind = let none = no_way (part c place) in omega (ari
     no_way : (z : ℤ) → nat_abs (z -ℤ (pos 1 *ℤ z)) ≡ 0
     no_way z = omega (arith, ints)
 
+-- an hour begins with a machine of the circuit where the hour before left one
+begun_machine : (t : Timing) (now : ℕ) (c : CircuitView) (powers others : List LoadPower) (m : Machine) → IsMachineOf c powers m
+    → ArePositions c others m.at → IsMachineOf c others (hour_begun t now m)
+begun_machine timing.Static now c powers others m h at = record {
+  positions = at;
+  queue = record { queue = record { sorted = tt; one_each = tt; numbers = tt }; controls = tt };
+}
+begun_machine timing.Clock now c powers others m h at = record { positions = at; queue = h.queue }
+
 module _ (hours_law : HoursLaw) (next_law : NextLaw) where
   -- positions of a circuit are its at any hour
   at_hour : (c : CircuitView) (powers : List LoadPower) (at : Positions) (hour : ℕ) → ArePositions c powers at
@@ -82,19 +94,16 @@ module _ (hours_law : HoursLaw) (next_law : NextLaw) where
       }
 
   -- the hours that are left of a Solve, and the Solves behind it
-  hours_stand : (c : CircuitView) (more : List CircuitView) (hours : List ℕ) (powers : List LoadPower) (at : Positions)
-      (opened : List (Option ℕ)) (n : ℕ)
-      → CanBeSolved c → All CanBeSolved more → ArePositions c powers at
+  hours_stand : (c : CircuitView) (more : List CircuitView) (hours : List ℕ) (powers : List LoadPower) (m : Machine) (n : ℕ)
+      → CanBeSolved c → All CanBeSolved more → IsMachineOf c powers m
       → ((left : Positions) (count : ℕ) → CanStart left → StandsAt (open_solves more left count))
-      → StandsAt (open_hours c more hours at opened n (λ left count. open_solves more left count))
-  hours_stand c more [] powers at opened n own others h behind = behind at n (can_start c powers at h)
-  hours_stand c more (hour ∷ hours) powers at opened n own others h behind = record {
+      → StandsAt (open_hours c more hours m n (λ left count. open_solves more left count))
+  hours_stand c more [] powers m n own others h behind = behind m.at n (can_start c powers m.at h.positions)
+  hours_stand c more (hour ∷ hours) powers m n own others h behind = record {
     circuit = own;
     more = others;
-    machine = record {
-      positions = at_hour c powers at hour h;
-      queue = record { queue = record { sorted = tt; one_each = tt; numbers = tt }; controls = tt };
-    };
+    machine = begun_machine (timing_of c.options.controlmode) (time_of hour) c powers (hour_powers c.elements hour) m h
+        (at_hour c powers m.at hour h.positions);
   }
 
   solves_stand : (cs : List CircuitView) (at : Positions) (n : ℕ) → All CanBeSolved cs → CanStart at
@@ -103,15 +112,18 @@ module _ (hours_law : HoursLaw) (next_law : NextLaw) where
   solves_stand (c ∷ more) at n all start =
       let own = All-head CanBeSolved c more all in
       let rest = All-tail CanBeSolved c more all in
-      hours_stand c more (hours_of c.options) (hour_powers c.elements 0) (start_from c at) (no_openings c) n own rest
-      (start c own.within.elements_in_range) (λ left count next. solves_stand more left count rest next)
+      hours_stand c more (hours_of c.options) (hour_powers c.elements 0) (before_first c (start_from c at)) n own rest
+      (record {
+        positions = start c own.within.elements_in_range;
+        queue = record { queue = record { sorted = tt; one_each = tt; numbers = tt }; controls = tt };
+      }) (λ left count next. solves_stand more left count rest next)
 
   -- behind a round
   behind_stands : (s : Settling) → Stands s → (o : Outcome)
       → IsMachineOf s.circuit (hour_powers s.circuit.elements s.hour) (left_by o) → StandsAt (behind_round s o)
   behind_stands s h (Moves acts m) kept = record { circuit = h.circuit; more = h.more; machine = kept }
   behind_stands s h (Ends end m) kept =
-      hours_stand s.circuit s.more s.hours (hour_powers s.circuit.elements s.hour) m.at m.opened s.number h.circuit h.more kept.positions
+      hours_stand s.circuit s.more s.hours (hour_powers s.circuit.elements s.hour) m s.number h.circuit h.more kept
       (λ left count next. solves_stand s.more left count h.more next)
 
 -- ---- a block

@@ -112,7 +112,7 @@ module _ (x : Settle) (hours : List ℕ) (more : List CircuitView) where
 
   -- what comes behind it, with what it left
   abbrev pub behind_it : Machine → Checking
-  behind_it n = open_hours x.circuit more hours n.at n.opened x.number (λ left count. open_solves more left count)
+  behind_it n = open_hours x.circuit more hours n x.number (λ left count. open_solves more left count)
 
   module _ (limits : Limits) (n : Machine) (last : Certificate)
       (last_holds : AllHold due after last (behind_it n)) where

@@ -1,5 +1,5 @@
 -- The hours of a Solve: the blocks of their settles hold, and lead to what comes behind the Solve.
-use Rattle.std.proofs.Common.{◌≡◌, ◌∙◌, ℕ, suc, ◌+◌, ◌<◌, ◌^◌, List, [], ◌∷◌, ◌++◌, length, refl, sym, ap, subst, arith}
+use Rattle.std.proofs.Common.{◌≡◌, ◌∙◌, ℕ, suc, ◌+◌, ◌<◌, ◌^◌, List, [], ◌∷◌, ◌++◌, length, map, refl, sym, ap, subst, arith}
 use Rattle.std.specs.List.{AllByRecursion}
 use Rattle.std.proofs.lemmas.List.{append_assoc, append-nil, length-append}
 use Rattle.fd_checking.specs.dss_circuit.Circuit.{CircuitView}
@@ -15,12 +15,14 @@ use Rattle.fd_checking.specs.fd_certfile.Certificates.{Certificate, gives}
 use Rattle.fd_checking.specs.fd_certfile.Verdict.{AllHold}
 use Rattle.fd_checking.specs.fd_check.Checking.{Checking, after, due, open_hours, open_solves}
 use Rattle.fd_checking.specs.fd_outcome.Certificates.{blocks_from, blocks_of}
-use Rattle.fd_checking.specs.fd_outcome.Events.{Event, IfSettle, settle}
+use Rattle.fd_checking.specs.fd_outcome.Events.{Event, IfSettle, row, settle}
+use Rattle.fd_checking.specs.fd_outcome.Pages.{controls_of}
 use Rattle.fd_checking.specs.fd_outcome.Settles.{Round, Settle, SettleEnd, settled, failed, without_certificate}
 use Rattle.fd_checking.specs.fd_outcome.Work.{Step, goes, ends}
 use Rattle.fd_checking.specs.fd_daily.Underway.{plant_at}
 use Rattle.fd_checking.specs.fd_pages.Hours.{Kept, hour_settle}
-use Rattle.fd_checking.specs.fd_solving.Solving.{IsBehind, IsEndBy, IsHour, IsHoursStep, hour_begun, kept_by, rounds_of}
+use Rattle.fd_checking.specs.fd_pages.Pending.{pending_events, pending_rows}
+use Rattle.fd_checking.specs.fd_solving.Solving.{IsBehind, IsEndBy, IsHour, IsHoursStep, begun_by, kept_by, rounds_of}
 use Rattle.fd_checking.specs.fd_solving.Steps.{StandingView, behind_events, standing}
 use Rattle.fd_checking.specs.fd_solving.Headline.{HasModestNumbers}
 use Rattle.fd_app.specs.Printed.{all_rounds, rounds_in}
@@ -100,13 +102,13 @@ module _ (c : CircuitView) where
   ended_well hour (stopped (procedure (solving.OutOfRange place step))) n end h e = absurd (let no : ⊥ = cc in no)
   ended_well hour (stopped (procedure (solving.NotConverged place steps update))) n end h e = absurd (let no : ⊥ = cc in no)
   ended_well hour (stopped (procedure solving.NoMemory)) n end h e = absurd h
-  ended_well hour (stopped (uncertified (loose row mismatch))) n end h e = absurd (let no : ⊥ = cc in no)
+  ended_well hour (stopped (uncertified (loose at mismatch))) n end h e = absurd (let no : ⊥ = cc in no)
   ended_well hour (stopped (uncertified (uncertain place bound))) n end h e = absurd (let no : ⊥ = cc in no)
 
   module _ (more : List CircuitView) (size : size_of (layout_of c.elements) < 2 ^ 127) where
     -- where the hours that are left open, from what was kept
     abbrev pub opens : List ℕ → Kept → Checking
-    opens hours l = open_hours c more hours l.at l.opened l.settled (λ left count. open_solves more left count)
+    opens hours l = open_hours c more hours l.machine l.settled (λ left count. open_solves more left count)
 
     -- the hours that are left came to these events, and what stands then
     pub record HoursHold (hours : List ℕ) (l : Kept) (events : List Event) (t : StandingView) : Type 0 where
@@ -117,10 +119,10 @@ module _ (c : CircuitView) where
 
     -- an hour before those
     module _ (hour : ℕ) (hours : List ℕ) (l : Kept) (rounds : List (Claim × List Act)) (n : Machine)
-        (computed : IsComputedFrom (limits_of c.options) (plant_at c hour) (hour_begun c hour l) rounds (ended Settled) n)
+        (computed : IsComputedFrom (limits_of c.options) (plant_at c hour) (begun_by c hour l).machine rounds (ended Settled) n)
         (events : List Event) (t : StandingView) (rest : HoursHold hours (kept_by l n) events t) where
       abbrev x : Settle
-      x = hour_settle c hour l (rounds_of rounds) settled n.at
+      x = hour_settle c hour (begun_by c hour l) (rounds_of rounds) settled n.at
 
       many_rounds : (rs : List (Claim × List Act)) → length (rounds_of rs) ≡ length rs
       many_rounds [] = refl
@@ -129,7 +131,7 @@ module _ (c : CircuitView) where
       one_fit : HasModestNumbers x → AllByRecursion IsFit (blocks_of x)
       one_fit modest =
           rounds_fit x hours more (limits_of c.options) n (ended Settled) (omega (arith, modest.number)) (omega (arith, modest.hour)) size rounds 0
-          (hour_begun c hour l) computed (omega (arith, modest.few, many_rounds rounds)) modest.acts
+          (begun_by c hour l).machine computed (omega (arith, modest.few, many_rounds rounds)) modest.acts
 
       hour_printed : IsPrinted (settle x ∷ events)
       hour_printed = both_printed (settle x ∷ []) events (record {
@@ -143,7 +145,7 @@ module _ (c : CircuitView) where
         circuit = rest.circuit;
         printed = hour_printed;
         hold = λ last h. subst (λ (k : Certificate). AllHold due after k (opens (hour ∷ hours) l)) (sym (before_both (blocks_of x) (blocks_in events) last))
-            (rounds_hold x hours more (limits_of c.options) n (before (blocks_in events) last) (rest.hold last h) rounds 0 (hour_begun c hour l) computed);
+            (rounds_hold x hours more (limits_of c.options) n (before (blocks_in events) last) (rest.hold last h) rounds 0 (begun_by c hour l).machine computed);
       }
 
     hour_goes : (hour : ℕ) (hours : List ℕ) (l : Kept) (made : Settle) (kept : Kept) → IsHour c hour l made kept
@@ -154,16 +156,29 @@ module _ (c : CircuitView) where
         let end_is : is.end ≡ settled = sym (ap (λ (s : Settle). s.end) is.settle_is) ∙ well in
         let ending : is.ending ≡ ended Settled = ended_well hour is.ending is.machine is.end is.end_is end_is in
         let computed = subst (λ (e : Ending). IsComputedFrom (limits_of c.options) (plant_at c hour)
-        (hour_begun c hour l) is.rounds e is.machine) ending is.computed in
-        let made_is : hour_settle c hour l (rounds_of is.rounds) settled is.machine.at ≡ made =
-        ap (λ (e : SettleEnd). hour_settle c hour l (rounds_of is.rounds) e is.machine.at) (sym end_is) ∙ sym is.settle_is in
+        (begun_by c hour l).machine is.rounds e is.machine) ending is.computed in
+        let made_is : hour_settle c hour (begun_by c hour l) (rounds_of is.rounds) settled is.machine.at ≡ made =
+        ap (λ (e : SettleEnd). hour_settle c hour (begun_by c hour l) (rounds_of is.rounds) e is.machine.at) (sym end_is) ∙ sym is.settle_is in
         subst (λ (s : Settle). HoursHold (hour ∷ hours) l (settle s ∷ events) t) made_is
         (hour_before hour hours l is.rounds is.machine computed events t (subst (λ (k : Kept). HoursHold hours k events t) is.kept rest))
 
     -- ---- the hours
 
-    no_hours : (l : Kept) → HoursHold [] l [] (standing c l.at l.settled)
-    no_hours l = record { circuit = refl; printed = none_printed; hold = λ last h. h }
+    -- the entries that still wait are no blocks
+    rows_printed : (rows : List (List (List ℕ))) → IsPrinted (map row rows) × (blocks_in (map row rows) ≡ [])
+    rows_printed [] = (none_printed, refl)
+    rows_printed (r ∷ rows) =
+        let rest = rows_printed rows in
+        (record { no_lines = (tt, rest.0.no_lines); fit = λ h. rest.0.fit h.1; counted = rest.0.counted }, rest.1)
+
+    no_hours : (l : Kept) → HoursHold [] l (pending_events c l.machine.queue) (standing c l.machine.at l.settled)
+    no_hours l =
+        let rows = rows_printed (pending_rows (controls_of c.elements) l.machine.queue) in
+        record {
+          circuit = refl;
+          printed = rows.0;
+          hold = λ last h. subst (λ (bs : List Block). AllHold due after (before bs last) (opens [] l)) (sym rows.1) h;
+        }
 
     abbrev Again : List ℕ → Kept → Type 0
     Again hours kept = (rest : Step StandingView) → IsHoursStep c hours kept rest → (es : List Event) (u : StandingView) → rest ≡ goes es u
@@ -172,9 +187,10 @@ module _ (c : CircuitView) where
     pub hours_step : (hours : List ℕ) (l : Kept) (step : Step StandingView) → IsHoursStep c hours l step
         → (events : List Event) (t : StandingView) → step ≡ goes events t → HoursHold hours l events t
     hours_step [] l step h events t e =
-        let es : [] ≡ events = cc in
-        let ts : standing c l.at l.settled ≡ t = cc in
-        subst (λ (u : StandingView). HoursHold [] l events u) ts (subst (λ (q : List Event). HoursHold [] l q (standing c l.at l.settled)) es (no_hours l))
+        let es : pending_events c l.machine.queue ≡ events = cc in
+        let ts : standing c l.machine.at l.settled ≡ t = cc in
+        subst (λ (u : StandingView). HoursHold [] l events u) ts
+        (subst (λ (q : List Event). HoursHold [] l q (standing c l.machine.at l.settled)) es (no_hours l))
     hours_step (hour ∷ hours) l step h events t e = by h.made.end refl h.goes_on (λ rest right es u same. hours_step hours h.kept rest right es u same)
       where
         behind : h.made.end ≡ settled → (rest : Step StandingView) → IsHoursStep c hours h.kept rest

@@ -30,6 +30,7 @@ use Rattle.fd_checking.specs.fd_certfile.Rules.{moves}
 use Rattle.fd_checking.specs.fd_check.Checking.{Checking, Settling, act_due, behind_round, open_hours, open_solves, sampled_by, under_way}
 use Rattle.fd_checking.specs.fd_daily.Underway.{plant_at}
 use Rattle.fd_checking.specs.fd_outcome.Events.{Event, History, IfSettle, settle, row}
+use Rattle.fd_checking.specs.fd_outcome.Pages.{controls_of}
 use Rattle.fd_checking.specs.fd_outcome.History.{IsHistory}
 use Rattle.fd_checking.specs.fd_outcome.Parts.{events_in}
 use Rattle.fd_checking.specs.fd_outcome.Settles.{Settle, SettleEnd, claim_in, failed, round_of, settled, without_certificate}
@@ -37,12 +38,13 @@ use Rattle.fd_checking.specs.fd_outcome.Work as work
 use Rattle.fd_checking.specs.fd_outcome.Work.{AfterStep, Step, goes}
 use Rattle.fd_checking.specs.fd_pages.Bases.{base_events}
 use Rattle.fd_checking.specs.fd_pages.Hours.{Kept, hour_settle}
+use Rattle.fd_checking.specs.fd_pages.Pending.{pending_rows}
 use Rattle.fd_checking.specs.fd_solving.Commands.{Applied, nothing_left, solve_left, bases_left, IsByTests, IsStepOf, IsTested, tried}
 use Rattle.fd_checking.specs.fd_solving.Commands as commands
 use Rattle.fd_checking.specs.fd_solving.Headline.{AreAlike, DecidesAlike, IsSolved}
 use Rattle.fd_checking.specs.fd_solving.Scripts.{IsDoneThere, no_name}
 use Rattle.fd_checking.specs.fd_solving.Commands.{IsStep}
-use Rattle.fd_checking.specs.fd_solving.Solving.{IsBehind, IsEndBy, IsHour, IsHoursStep, IsSolutionStep, hour_begun, kept_by, kept_first, rounds_of}
+use Rattle.fd_checking.specs.fd_solving.Solving.{IsBehind, IsEndBy, IsHour, IsHoursStep, IsSolutionStep, begun_by, kept_by, kept_first, rounds_of}
 use Rattle.fd_checking.specs.fd_solving.Steps.{StandingView, behind_events, standing}
 use Rattle.fd_app.specs.Solves.{behind_command, solves_from}
 use Rattle.fd_app.specs.Steady.{AreSteady, AreSteadyFrom, IsLastOfFault, Solves, outcome_at}
@@ -117,18 +119,24 @@ module _ (x : Settle) (hours : List ℕ) (more : List CircuitView) (limits : Lim
         alike.0 solves h.1.1 alike.1,
   )
 
+-- rows are no rounds
+rows_steady : (rows : List (List (List ℕ))) (later : List Event) (t : Checking) → AreSteady later t
+    → AreSteady (map row rows ++ later) t
+rows_steady [] later t h = h
+rows_steady (r ∷ rows) later t h = rows_steady rows later t h
+
 -- ---- an hour
 
 module _ (c : CircuitView) (more : List CircuitView) where
   abbrev opens : List ℕ → Kept → Checking
-  opens hours l = open_hours c more hours l.at l.opened l.settled (λ left count. open_solves more left count)
+  opens hours l = open_hours c more hours l.machine l.settled (λ left count. open_solves more left count)
 
   module _ (hour : ℕ) (hours : List ℕ) (l : Kept) (rounds : List (Claim × List Act)) (ending : Ending) (n : Machine) (end : SettleEnd)
-      (computed : IsComputedFrom (limits_of c.options) (plant_at c hour) (hour_begun c hour l) rounds ending n)
+      (computed : IsComputedFrom (limits_of c.options) (plant_at c hour) (begun_by c hour l).machine rounds ending n)
       (end_is : IsEndBy c hour ending n end) (es : List Event)
       (later : end ≡ settled → AreSteady es (opens hours (kept_by l n))) (none : (end ≡ settled → ⊥) → es ≡ []) where
     abbrev x : Settle
-    x = hour_settle c hour l (rounds_of rounds) end n.at
+    x = hour_settle c hour (begun_by c hour l) (rounds_of rounds) end n.at
 
     behind : (e : SettleEnd) → end ≡ e → (t : Checking) → (ending ≡ ended Settled → t ≡ behind_it x hours more n) → AreSteady es t
     behind settled is t at = subst (AreSteady es) (sym (at (ended_well c hour ending n end end_is is))) (later is)
@@ -138,13 +146,13 @@ module _ (c : CircuitView) (more : List CircuitView) where
     pub hour_steady : AreAlike x → AreSteady (settle x ∷ es) (opens (hour ∷ hours) l)
     hour_steady alike =
         rounds_steady x hours more (limits_of c.options) n ending (λ u. AreSteady es u) (λ e. ended_well c hour ending n end end_is e)
-        (λ t at. behind end refl t at) rounds 0 (hour_begun c hour l) computed alike
+        (λ t at. behind end refl t at) rounds 0 (begun_by c hour l).machine computed alike
 
   made_steady : (hour : ℕ) (hours : List ℕ) (l : Kept) (made : Settle) (kept : Kept) → IsHour c hour l made kept → IsSolved made
       → (es : List Event) → (made.end ≡ settled → AreSteady es (opens hours kept)) → ((made.end ≡ settled → ⊥) → es ≡ [])
       → AreSteady (settle made ∷ es) (opens (hour ∷ hours) l)
   made_steady hour hours l made kept is solved es later none =
-      let x : Settle = hour_settle c hour l (rounds_of is.rounds) is.end is.machine.at in
+      let x : Settle = hour_settle c hour (begun_by c hour l) (rounds_of is.rounds) is.end is.machine.at in
       let ends : is.end ≡ made.end = sym (ap (λ (s : Settle). s.end) is.settle_is) in
       let here = hour_steady hour hours l is.rounds is.ending is.machine is.end is.computed is.end_is es
       (λ e. subst (λ (k : Kept). AreSteady es (opens hours k)) is.kept (later (sym ends ∙ e)))
@@ -166,7 +174,9 @@ module _ (c : CircuitView) (more : List CircuitView) where
       → AllByRecursion (IfSettle IsSolved) (events_in step) → (later : List Event) → Behind step later
       → AreSteady (events_in step ++ later) (opens hours l)
   hours_steady [] l step h solved later behind =
-      subst (λ (s : Step StandingView). AreSteady (events_in s ++ later) (opens [] l)) (sym h) (subst (λ (s : Step StandingView). Behind s later) h behind)
+      subst (λ (s : Step StandingView). AreSteady (events_in s ++ later) (opens [] l)) (sym h)
+      (rows_steady (pending_rows (controls_of c.elements) l.machine.queue) later (opens [] l)
+      (subst (λ (s : Step StandingView). Behind s later) h behind))
   hours_steady (hour ∷ hours) l step h solved later behind = by h.made.end refl h.goes_on (λ s right all b. hours_steady hours h.kept s right all later b)
     where
       goes_on : h.made.end ≡ settled → (rest : Step StandingView) → IsHoursStep c hours h.kept rest

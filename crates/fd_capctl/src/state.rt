@@ -69,6 +69,13 @@ impl CapState {
         }
     }
 
+    /// Forgets the latest move; the bank's last opening time stays.
+    pub fn forget_move(&mut self)
+        ensures { self.new ≡ record self.old { moved = None } }
+    {
+        self.moved = None;
+    }
+
     /// The bank's last opening time, as the acts have left it.
     pub fn opened(&self) -> Option<u64>
         ensures { result ≡ self.now.opened }

@@ -159,7 +159,7 @@ module _ (law : CertificateLaw) (given_law : GivenLaw) (solving : SolvingLaw due
 
   pub settled_alike : (m : Machine) → outcome_in s.circuit s.machine (ball_of b) ≡ Ends Settled m
       → pointwise same_act [] b.acts ≡ true
-      → Leads r (under_way s) w (open_hours s.circuit s.more s.hours m.at m.opened s.number (λ left count. open_solves s.more left count))
+      → Leads r (under_way s) w (open_hours s.circuit s.more s.hours m s.number (λ left count. open_solves s.more left count))
   settled_alike m is_so alike =
       subst (λ (o : Outcome). Leads r (under_way s) w (behind_round s o)) is_so
       (leads_by (ap (λ (o : Outcome). broken_by (sampled_by o) b.acts) is_so ∙ moves_alike [] b.acts alike))

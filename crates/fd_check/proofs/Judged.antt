@@ -104,24 +104,22 @@ module _ (law : CertificateLaw) (s : Settling) (r begun w : ReaderView)
   said : HourSays s begun w left (hour_told w ended (first_unlike (map acts_made (with_acts ended rounds)) (drop (length begun.given) w.given)))
   said = hour_says law given_law (solving_law due after) s begun numbered timed in_round rounds run.acts ended w run.calls run.ends
 
-  abbrev Next : Positions → List (Option ℕ) → Checking
-  Next at opened = open_hours s.circuit s.more s.hours at opened s.number (λ more count. open_solves s.more more count)
+  abbrev Next : Machine → Checking
+  Next n = open_hours s.circuit s.more s.hours n s.number (λ more count. open_solves s.more more count)
 
   module _ (result : Result (Unit {0}) CheckFault)
       (is : result ≡ hour_told w ended (first_unlike (map acts_made (with_acts ended rounds)) (drop (length begun.given) w.given))) where
     told : HourSays s begun w left result
     told = subst (HourSays s begun w left) (sym is) said
 
-    pub hour_goes : (at : Positions) (opened : List (Option ℕ)) → at ≡ left.at → opened ≡ left.opened
-        → OnOk result (Leads r (under_way s) w (Next at opened))
-    hour_goes at opened at_is opened_is = by result told
+    pub hour_goes : (n : Machine) → n ≡ left → OnOk result (Leads r (under_way s) w (Next n))
+    hour_goes n is_left = by result told
       where
         by : (x : Result (Unit {0}) CheckFault) → HourSays s begun w left x
-            → OnOk x (Leads r (under_way s) w (Next at opened))
+            → OnOk x (Leads r (under_way s) w (Next n))
         by (Ok t) h = λ answer k.
             same_reader r begun s.number s.hour same (under_way s) answer
-            (h answer (subst (λ (o : List (Option ℕ)). Comes w (Next left.at o) answer) opened_is
-            (subst (λ (x : Positions). Comes w (Next x opened) answer) at_is k)))
+            (h answer (subst (λ (x : Machine). Comes w (Next x) answer) is_left k))
         by (Err e) h = tt
 
     pub hour_refused : IfErr result (λ fault. Tells fault (λ answer. Comes r (under_way s) answer))

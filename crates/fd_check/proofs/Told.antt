@@ -97,7 +97,7 @@ module _ (law : CertificateLaw) (solving : SolvingLaw due after) (s : Settling) 
 
 -- what an hour comes to that left a reader and a machine
 abbrev pub HourSays : Settling → ReaderView → ReaderView → Machine → Result (Unit {0}) CheckFault → Type 0
-HourSays s r w m (Ok t) = Leads r (under_way s) w (open_hours s.circuit s.more s.hours m.at m.opened s.number (λ left count. open_solves s.more left count))
+HourSays s r w m (Ok t) = Leads r (under_way s) w (open_hours s.circuit s.more s.hours m s.number (λ left count. open_solves s.more left count))
 HourSays s r w m (Err e) = Tells e (λ answer. Comes r (under_way s) answer)
 
 says : (s : Settling) (r w : ReaderView) (m : Machine) (end : End) (otherwise : Result (Unit {0}) CheckFault)

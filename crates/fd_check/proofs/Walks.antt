@@ -82,7 +82,7 @@ decided_more s look m (x ∷ xs) acts = decided_by acts (outcome_of s m (look m.
 -- by how its settle ended, which left a reader and a machine
 abbrev pub ByEnd : Settling → ReaderView → ReaderView → Machine → End → Type 0
 ByEnd s r w m Open = Leads r (under_way s) w (under_way (record s { round = w.round; machine = m }))
-ByEnd s r w m Settled = Leads r (under_way s) w (open_hours s.circuit s.more s.hours m.at m.opened s.number (λ left count. open_solves s.more left count))
+ByEnd s r w m Settled = Leads r (under_way s) w (open_hours s.circuit s.more s.hours m s.number (λ left count. open_solves s.more left count))
 ByEnd s r w m Limited = Comes r (under_way s) (refused (last_line w) rule.ControlLimit)
 ByEnd s r w m (Undecidable k u) = Comes r (under_way s) (refused (last_line w) rule.Undecided)
 
@@ -228,7 +228,7 @@ module _ (law : CertificateLaw) (given_law : GivenLaw) (solving : SolvingLaw due
             → ByActs s r w n Settled (if t then None else Some g.rule_line)
         by true alike =
             subst (λ (k : ReaderView).
-            Leads r (under_way s) k (open_hours s.circuit s.more s.hours n.at n.opened s.number (λ left count.
+            Leads r (under_way s) k (open_hours s.circuit s.more s.hours n s.number (λ left count.
             open_solves s.more left count)))
             (sym none) (settled_alike law given_law solving s r b u number hour round in_range one.solved n
             (here (Ends Settled n) e) alike)

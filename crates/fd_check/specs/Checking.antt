@@ -5,11 +5,11 @@ use Rattle.dss_commands.specs.dss_circuit.Circuit.{CircuitView}
 use Rattle.fd_daily.specs.fd_queue.Controls.{Positions}
 use Rattle.fd_daily.specs.fd_queue.Machine.{Act, Machine}
 use Rattle.fd_daily.specs.fd_sample.Decided.{sample_over}
-use Rattle.fd_daily.specs.fd_settle.Plant.{controls_in, setup_of, started}
+use Rattle.fd_daily.specs.fd_settle.Plant.{controls_in, setup_of}
 use Rattle.fd_daily.specs.fd_settle.Sampling.{Sampling, sampling_of}
 use Rattle.fd_daily.specs.fd_settle.Settle.{Open, Settled, Limited, Undecidable, Outcome, Ends, Moves, outcome_of}
-use Rattle.fd_daily.specs.Day.{no_openings}
-use Rattle.fd_daily.specs.Hours.{hours_of, time_of}
+use Rattle.fd_daily.specs.Day.{before_first, resumed}
+use Rattle.fd_daily.specs.Hours.{hours_of}
 use Rattle.fd_daily.specs.Underway.{plant_at, start_from}
 use Rattle.fd_certfile.specs.Blocks.{Block}
 use Rattle.fd_certfile.specs.Blocks as blocks
@@ -59,25 +59,25 @@ pub data Checking : Type 0 where
   done : Checking
   under_way : Settling → Checking
 
--- The first round of the next hour of a Solve, which starts at these positions, with these opening times and behind so
--- many settles; where no hour is left, what comes behind the Solve.
-abbrev pub open_hours : CircuitView → List CircuitView → List ℕ → Positions → List (Option ℕ) → ℕ
+-- The first round of the next hour of a Solve, where the hour before left this machine, behind so many settles; where no
+-- hour is left, what comes behind the Solve.
+abbrev pub open_hours : CircuitView → List CircuitView → List ℕ → Machine → ℕ
     → (Positions → ℕ → Checking) → Checking
-open_hours c more [] at opened n behind = behind at n
-open_hours c more (hour ∷ hours) at opened n behind = under_way (record {
+open_hours c more [] m n behind = behind m.at n
+open_hours c more (hour ∷ hours) m n behind = under_way (record {
   circuit = c;
   hour = hour;
   hours = hours;
   more = more;
   number = n + 1;
   round = 0;
-  machine = started c at (time_of hour) opened;
+  machine = resumed c hour m;
 })
 
 -- the first round of the next Solve, where the Solves so far left these positions and had so many settles
 abbrev pub open_solves : List CircuitView → Positions → ℕ → Checking
 open_solves [] at n = done
-open_solves (c ∷ more) at n = open_hours c more (hours_of c.options) (start_from c at) (no_openings c) n (λ left count. open_solves more left count)
+open_solves (c ∷ more) at n = open_hours c more (hours_of c.options) (before_first c (start_from c at)) n (λ left count. open_solves more left count)
 
 -- ---- what is due
 
@@ -94,10 +94,10 @@ due (under_way s) = due_in s ((plant_at s.circuit s.hour).blame s.machine.at)
 
 -- ---- what a block leads to
 
--- behind acts the next round, and else the next hour, with the positions and the opening times that the acts left
+-- behind acts the next round, and else the next hour, which begins by what the acts left
 abbrev pub behind_round : Settling → Outcome → Checking
 behind_round s (Moves acts m) = under_way (record s { round = s.round + 1; machine = m })
-behind_round s (Ends end m) = open_hours s.circuit s.more s.hours m.at m.opened s.number (λ left count. open_solves s.more left count)
+behind_round s (Ends end m) = open_hours s.circuit s.more s.hours m s.number (λ left count. open_solves s.more left count)
 
 abbrev pub after : Checking → Block → Checking
 after done b = done

@@ -4,7 +4,7 @@ ghost use Rattle.fd_daily.specs.dss_ready.Ready.{HasPassed};
 ghost use Rattle.fd_daily.specs.fd_xfmr.Leakage.{AreTaps};
 ghost use Rattle.fd_daily.specs.fd_sample.Probes.{positions_in};
 ghost use Rattle.fd_daily.specs.fd_settle.Start.{ArePositions};
-ghost use Rattle.fd_daily.specs.Underway.{IsLeftBehind, IsUnderway};
+ghost use Rattle.fd_daily.specs.Underway.{IsLeftBehind, IsUnderway, machine_in};
 ghost use Rattle.fd_check.specs.Comes.{LeadsForAll, TellsForAll};
 ghost use Rattle.fd_check.specs.Hours.{behind_hour, hour_open, hours_open, solves_open};
 
@@ -64,9 +64,9 @@ fn check_hours(
     requires underway { IsUnderway circuit.now at.old underway.old }
     requires settles { settled.old + 8761 < 2 ^ 32 }
     ensures goes { OnOk result (LeadsForAll
-        reader.old (hours_open circuit.now at.old underway.old.day settled.old)
+        reader.old (hours_open circuit.now underway.old.day (machine_in at.old underway.old) settled.old)
         reader.new (solves_open [] at.new settled.new)) }
-    ensures refused { IfErr result (TellsForAll reader.old (hours_open circuit.now at.old underway.old.day settled.old)) }
+    ensures refused { IfErr result (TellsForAll reader.old (hours_open circuit.now underway.old.day (machine_in at.old underway.old) settled.old)) }
     ensures taps { All AreTaps at.new.taps }
     ensures settles { settled.new ≤ settled.old + 8761 }
 {
@@ -97,10 +97,10 @@ fn check_hour(
     requires ready { HasPassed circuit.now }
     requires underway { IsUnderway circuit.now at.old underway.old }
     ensures goes { (hours : List ℕ) → OnOk result (LeadsForAll
-        reader.old (hour_open circuit.now at.old underway.old.day number hours)
-        reader.new (behind_hour circuit.now at.new underway.new.day number hours)) }
+        reader.old (hour_open circuit.now underway.old.day (machine_in at.old underway.old) number hours)
+        reader.new (behind_hour circuit.now (machine_in at.new underway.new) number hours)) }
     ensures refused { (hours : List ℕ) → IfErr result (TellsForAll
-        reader.old (hour_open circuit.now at.old underway.old.day number hours)) }
+        reader.old (hour_open circuit.now underway.old.day (machine_in at.old underway.old) number hours)) }
     ensures left { OnOk result (IsLeftBehind circuit.now at.new underway.old underway.new) }
     ensures positions { ArePositions circuit.now underway.new.powers.loads (positions_in at.new) }
 {

@@ -4,13 +4,17 @@ use Rattle.std.specs.Prelude.{IfSome, IsSome, is_none}
 use Rattle.std.specs.List.{AllByRecursion, range_with_len}
 use Rattle.std.specs.Option.{unwrap_or}
 use Rattle.std.proofs.lemmas.List.FromFn.{length-range_with_len}
-use Rattle.fd_settings.specs.dss_circuit.Circuit.{CircuitView}
 use Rattle.fd_settings.specs.dss_model.InRange.{OptionsInRange}
 use Rattle.fd_settings.specs.dss_model.declared.options.Options.{Options}
 use Rattle.fd_settings.specs.dss_model.declared.words.Mode.{Mode}
 use Rattle.fd_settings.specs.dss_model.declared.words.Mode.TheVariants as mode
-use Rattle.fd_daily.specs.Day.{DayView, IsDayOf, hour_in, hours_left}
-use Rattle.fd_daily.specs.Hours.{AreHours, hours_from, hours_in, hours_of}
+use Rattle.fd_settings.specs.dss_circuit.Circuit.{CircuitView}
+use Rattle.fd_settle.specs.fd_queue.Machine.{Machine, hour_begun}
+use Rattle.fd_settle.specs.fd_queue.declared.timing.Timing.{Timing}
+use Rattle.fd_settle.specs.fd_queue.declared.timing.Timing.TheVariants as timing
+use Rattle.fd_settle.specs.Plant.{timing_of}
+use Rattle.fd_daily.specs.Day.{DayView, IsDay, hour_in, hours_left, resumed}
+use Rattle.fd_daily.specs.Hours.{AreHours, hours_from, hours_in, hours_of, time_of}
 pub use Rattle.fd_settle.proofs.CallerLemmas.dss_ready as dss_ready
 pub use Rattle.fd_settle.proofs.CallerLemmas.fd_equations as fd_equations
 pub use Rattle.fd_settle.proofs.CallerLemmas.fd_inverse as fd_inverse
@@ -18,6 +22,26 @@ pub use Rattle.fd_settle.proofs.CallerLemmas.fd_inject as fd_inject
 pub use Rattle.fd_settle.proofs.CallerLemmas.fd_enclosure as fd_enclosure
 pub use Rattle.fd_settle.proofs.CallerLemmas.fd_sample as fd_sample
 pub use Rattle.fd_settle.proofs.CallerLemmas as fd_settle
+
+-- ---- an hour begins
+
+at_by : (t : Timing) (now : ℕ) (m : Machine) → (hour_begun t now m).at ≡ m.at
+at_by timing.Static now m = refl
+at_by timing.Clock now m = refl
+
+-- at the positions that the hour before left
+pub begun_at : (c : CircuitView) (hour : ℕ) (m : Machine) → (resumed c hour m).at ≡ m.at
+begun_at c hour m = at_by (timing_of c.options.controlmode) (time_of hour) m
+
+made_by : (t : Timing) (now : ℕ) (m : Machine) → (hour_begun t now m).made ≡ 0
+made_by timing.Static now m = refl
+made_by timing.Clock now m = refl
+
+-- with no act
+pub begun_made : (c : CircuitView) (hour : ℕ) (m : Machine) → (resumed c hour m).made ≡ 0
+begun_made c hour m = made_by (timing_of c.options.controlmode) (time_of hour) m
+
+-- ---- the hours that are left
 
 hours_more : (k last : ℕ) → k ≤ last → hours_from (Some k) last ≡ k ∷ range_with_len (k + 1) (last - k)
 hours_more k last h = let more : last + 1 - k ≡ suc (last - k) = omega (arith, h) in ap (range_with_len k) more
@@ -32,17 +56,17 @@ abbrev pub hours_behind : DayView → List ℕ
 hours_behind d = range_with_len (hour_in d + 1) (d.last - hour_in d)
 
 -- an hour that comes next is the first of those that are left
-pub next_first : (c : CircuitView) (d : DayView) → IsDayOf c d → IsSome d.hour
+pub next_first : (d : DayView) → IsDay d → IsSome d.hour
     → hours_left d ≡ hour_in d ∷ hours_behind d
-next_first c d is some = open_by d.hour d.last some is.hour
+next_first d is some = open_by d.hour d.last some is.hour
 
 within_by : (o : Option ℕ) (last : ℕ) → IfSome o (λ k. k ≤ last) → last ≤ 8760 → unwrap_or o 0 ≤ 8760
 within_by None last h most = omega arith
 within_by (Some k) last h most = omega (arith, h, most)
 
 -- no hour is past 8,760
-pub hour_within : (c : CircuitView) (d : DayView) → IsDayOf c d → hour_in d ≤ 8760
-hour_within c d is = within_by d.hour d.last is.hour is.last
+pub hour_within : (d : DayView) → IsDay d → hour_in d ≤ 8760
+hour_within d is = within_by d.hour d.last is.hour is.last
 
 each_from : (k n : ℕ) → k + n ≤ 8761 → AllByRecursion (λ hour. hour ≤ 8760) (range_with_len k n)
 each_from k zero h = tt
@@ -55,8 +79,8 @@ left_by : (o : Option ℕ) (last : ℕ) → IfSome o (λ k. k ≤ last) → last
 left_by None last h within = record { few = omega arith; each = tt }
 left_by (Some k) last h within = hours_within k (last + 1 - k) (omega (arith, h, within))
 
-pub left_hours : (c : CircuitView) (d : DayView) → IsDayOf c d → AreHours (hours_left d)
-left_hours c d is = left_by d.hour d.last is.hour is.last
+pub left_hours : (d : DayView) → IsDay d → AreHours (hours_left d)
+left_hours d is = left_by d.hour d.last is.hour is.last
 
 hours_by : (m : Mode) (number : ℕ) → number ≤ 8760 → AreHours (hours_in m number)
 hours_by mode.Snapshot number h = record { few = omega arith; each = (omega arith, tt) }

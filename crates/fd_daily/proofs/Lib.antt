@@ -3,4 +3,5 @@ mod Banks
 mod NextHours
 mod Starting
 mod Behind
+mod Settles
 pub mod CallerLemmas

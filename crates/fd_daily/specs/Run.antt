@@ -6,9 +6,9 @@ use Rattle.fd_settle.specs.fd_queue.Controls.{Positions}
 use Rattle.fd_settle.specs.fd_queue.Machine.{Machine, Setup}
 use Rattle.fd_settle.specs.Sampling.{Sampling}
 use Rattle.fd_settle.specs.Settle.{Settle, End, Open, Settled, Limited, Undecidable, settle_of}
-use Rattle.fd_settle.specs.Plant.{setup_of, started}
-use Rattle.fd_daily.specs.Day.{no_openings}
-use Rattle.fd_daily.specs.Hours.{hours_of, time_of}
+use Rattle.fd_settle.specs.Plant.{setup_of}
+use Rattle.fd_daily.specs.Day.{resumed}
+use Rattle.fd_daily.specs.Hours.{hours_of}
 
 -- an hour: what is sampled in it, the machine's setup, and how the machine starts from what the hour before left
 pub record Hour (C : Type 0) : Type 0 where
@@ -33,17 +33,13 @@ run_of look (h ∷ hs) m (xs ∷ xss) =
 
 -- ---- of a circuit
 
--- hour k keeps the positions and the opening times, and nothing else
+-- hour k begins by what the hour before left
 abbrev pub hour_of : {C : Type 0} → (ℕ → C) → CircuitView → ℕ → Hour C
-hour_of at_hour c k = record { circuit = at_hour k; setup = setup_of c; start = λ m. started c m.at (time_of k) m.opened }
+hour_of at_hour c k = record { circuit = at_hour k; setup = setup_of c; start = resumed c k }
 
 -- the hours of its Solve
 abbrev pub day_of : {C : Type 0} → (ℕ → C) → CircuitView → List (Hour C)
 day_of at_hour c = map (hour_of at_hour c) (hours_of c.options)
-
--- what a Solve starts with: no bank was opened yet
-abbrev pub before_first : CircuitView → Positions → Machine
-before_first c at = started c at 0 (no_openings c)
 
 -- ---- how a run goes on
 

@@ -1,5 +1,5 @@
 -- The hours of a Solve under way.
-use Rattle.std.specs.Prelude.{◌≡◌, ℕ, All, IsSome, List, [], ◌∷◌, Option, None}
+use Rattle.std.specs.Prelude.{◌≡◌, ℕ, All, IfSome, IsSome, List, [], ◌∷◌, Option, None}
 use Rattle.fd_settings.specs.dss_model.declared.command.Blame.{Blame}
 use Rattle.fd_settings.specs.dss_circuit.Circuit.{CircuitView}
 use Rattle.fd_settings.specs.fd_devices.Building.{IsModest}
@@ -10,13 +10,15 @@ use Rattle.fd_settings.specs.fd_devices.declared.settings.Positions.{Positions a
 use Rattle.fd_settle.specs.fd_network.Built.{IsBuiltOf}
 use Rattle.fd_settle.specs.fd_network.Faults.{IsFaultOf}
 use Rattle.fd_settle.specs.fd_queue.Controls.{Positions}
+use Rattle.fd_settle.specs.fd_queue.Machine.{Machine}
 use Rattle.fd_settle.specs.fd_sample.Probes.{positions_in}
+use Rattle.fd_settle.specs.Controls.{AreAtWork, machine_of}
 use Rattle.fd_settle.specs.Plant.{Plant, plant_of}
 use Rattle.fd_settle.specs.Rounds.{settled}
 use Rattle.fd_settle.specs.Settle.{Settle}
 use Rattle.fd_settle.specs.Start.{ArePositions, IsNetworkAt}
 use Rattle.fd_settle.specs.declared.round.Round.{Round}
-use Rattle.fd_daily.specs.Day.{DayView, IsDayOf, begun_hour, hour_in, hours_left}
+use Rattle.fd_daily.specs.Day.{DayView, IsDay, MayBegin, begun_hour, hour_in, hours_left}
 use Rattle.fd_daily.specs.declared.underway.Underway.{Underway}
 
 -- before the first Solve no device has a position
@@ -32,25 +34,37 @@ start_from c at = record { taps = next_taps c.solves c.elements at.taps; closed 
 abbrev pub plant_at : CircuitView → ℕ → Plant
 plant_at c hour = plant_of c (hour_powers c.elements hour)
 
--- the settle of the next hour over these rounds
-abbrev pub settled_hour : CircuitView → CodePositions → DayView → List Round → Settle
-settled_hour c at d rounds = settled (plant_at c (hour_in d)) (begun_hour c at d) rounds
+-- the machine that positions and controls show
+abbrev pub machine_in : CodePositions → Underway → Machine
+machine_in at u = machine_of at u.clock u.controls
 
--- the network is the circuit's at these positions with the powers of the next hour
+-- the settle of the next hour over these rounds, where the hour before left this machine
+abbrev pub settled_hour : CircuitView → DayView → Machine → List Round → Settle
+settled_hour c d m rounds = settled (plant_at c (hour_in d)) (begun_hour c d m) rounds
+
+-- The network is the circuit's at these positions with the powers of the next hour, and the controls are its own.
 pub record IsUnderway (c : CircuitView) (at : CodePositions) (u : Underway) : Type 0 where
   pub positions : ArePositions c u.powers.loads (positions_in at)
   pub powers : u.powers.loads ≡ hour_powers c.elements (hour_in u.day)
   pub modest : All IsModest u.powers.loads
-  pub day : IsDayOf c u.day
+  pub day : IsDay u.day
   pub hour : IsSome u.day.hour
   pub network : IsNetworkAt c u.powers.loads (positions_in at) u.net
+  pub work : AreAtWork c at u.clock u.controls
+  pub numbers : MayBegin (hour_in u.day) (machine_in at u).next
 
--- what is left of them behind an hour that left these positions
+-- what an hour leaves, however it ended
+pub record IsAfterHour (c : CircuitView) (at : CodePositions) (u : Underway) : Type 0 where
+  pub positions : ArePositions c u.powers.loads (positions_in at)
+  pub day : IsDay u.day
+  pub built : IsBuiltOf u.net c
+  pub work : AreAtWork c at u.clock u.controls
+
+-- what is left of them behind an hour that ended well and left these positions
 pub record IsLeftBehind (c : CircuitView) (at : CodePositions) (before after : Underway) : Type 0 where
-  pub positions : ArePositions c after.powers.loads (positions_in at)
-  pub day : IsDayOf c after.day
-  pub built : IsBuiltOf after.net c
+  pub after_hour : IsAfterHour c at after
   pub left : hours_left before.day ≡ hour_in before.day ∷ hours_left after.day
+  pub numbers : IfSome after.day.hour (λ k. MayBegin k (machine_in at after).next)
 
 -- what is to blame where the network of the first of these hours is out of range at these positions
 abbrev pub blame_first : CircuitView → List ℕ → Positions → Option Blame

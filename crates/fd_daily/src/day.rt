@@ -1,24 +1,21 @@
 // Where a Solve stands between its hours.
 ghost use Rattle.std.specs.Prelude.{◌≡◌, ◌++◌, ◌≤◌, IfOk, None, OnOk, Some, replicate};
 ghost use Rattle.fd_settings.specs.fd_devices.Settings.{bank_count};
-ghost use Rattle.fd_daily.specs.Day.{IsDayOf, hour_kept, hours_left, no_openings};
+ghost use Rattle.fd_daily.specs.Day.{IsDay, hour_kept, hours_left, no_openings};
 ghost use Rattle.fd_daily.specs.Hours.{first_hour, hour_after, hours_of, last_hour, time_of};
 
 use fd_settings::{Circuit, Element, Mode, Options};
-use fd_settle::Clock;
 use std::alloc::{AllocError, Global};
 use std::marker::Model;
-use std::mem;
 
 // The milliseconds of an hour.
 const HOUR: u64 = 3_600_000;
 
-/// The hours of a Solve that are left, and the last opening time of each bank in the script's order, in milliseconds.
+/// The hours of a Solve that are left.
 #[derive(Drop)]
 pub struct Day {
     hour: Option<u32>,
     last: u32,
-    opened: Vec<Option<u64>>,
 }
 
 impl Model for Day {
@@ -26,28 +23,22 @@ impl Model for Day {
 
     ghost Value = { DayView };
 
-    ghost view = { λ d. record { hour = d.hour; last = d.last; opened = d.opened.items } };
+    ghost view = { λ d. record { hour = d.hour; last = d.last } };
 }
 
 impl Day {
-    /// The start of a Solve by the circuit's options: all of its hours are left, and no bank was opened yet.
-    ///
-    /// # Errors
-    /// `AllocError` where the memory is refused.
-    pub fn start(alloc: Global, circuit: &Circuit) -> Result<Day, AllocError>
-        ensures left { IfOk result (λ d. hours_left d ≡ hours_of circuit.now.options) }
-        ensures hour { IfOk result (λ d. d.hour ≡ Some (first_hour circuit.now.options.mode)) }
-        ensures last { IfOk result (λ d. d.last ≡ last_hour circuit.now.options.mode circuit.now.options.number) }
-        ensures opened { IfOk result (λ d. d.opened ≡ no_openings circuit.now) }
-        ensures day { IfOk result (IsDayOf circuit.now) }
+    /// The start of a Solve by the circuit's options: all of its hours are left.
+    pub fn start(circuit: &Circuit) -> Day
+        ensures left { hours_left result ≡ hours_of circuit.now.options }
+        ensures hour { result.hour ≡ Some (first_hour circuit.now.options.mode) }
+        ensures last { result.last ≡ last_hour circuit.now.options.mode circuit.now.options.number }
+        ensures day { IsDay result }
     {
-        let opened = no_openings(alloc, circuit)?;
         let options = circuit.options();
-        Ok(Day {
+        Day {
             hour: Some(first_hour(options)),
             last: last_hour(options),
-            opened,
-        })
+        }
     }
 
     /// The hour that comes next: 0 for a snapshot, from 1 on for a day; none after the last.
@@ -57,28 +48,12 @@ impl Day {
         self.hour
     }
 
-    // The clock at the start of an hour. It takes the opening times until `keep` gives them back.
-    pub(crate) fn take_clock(&mut self, alloc: Global, hour: u32) -> Clock
+    // Goes on behind an hour that ended well.
+    pub(crate) fn end_hour(&mut self, hour: u32, is_well: bool)
         requires { hour ≤ 8760 }
-        ensures now { result.now ≡ time_of hour }
-        ensures opened { result.opened.items ≡ self.old.opened }
-        ensures hour { self.new.hour ≡ self.old.hour }
-        ensures last { self.new.last ≡ self.old.last }
-    {
-        Clock {
-            now: time_of(hour),
-            opened: mem::replace(&mut self.opened, Vec::new(alloc)),
-        }
-    }
-
-    // Keeps the opening times, and goes on behind an hour that ended well.
-    pub(crate) fn keep(&mut self, clock: Clock, hour: u32, is_well: bool)
-        requires { hour ≤ 8760 }
-        ensures opened { self.new.opened ≡ clock.opened.items }
         ensures hour { self.new.hour ≡ hour_kept is_well hour self.old }
         ensures last { self.new.last ≡ self.old.last }
     {
-        self.opened = clock.opened;
         if is_well {
             self.hour = hour_after(hour, self.last);
         }
@@ -86,7 +61,7 @@ impl Day {
 }
 
 // No opening time for each bank.
-fn no_openings(alloc: Global, circuit: &Circuit) -> Result<Vec<Option<u64>>, AllocError>
+pub(crate) fn no_openings(alloc: Global, circuit: &Circuit) -> Result<Vec<Option<u64>>, AllocError>
     ensures { IfOk result (λ opened. opened.items ≡ no_openings circuit.now) }
 {
     let mut opened = Vec::new(alloc);
@@ -132,7 +107,7 @@ fn hour_after(k: u32, last: u32) -> Option<u32>
 }
 
 // The time at which an hour starts, in milliseconds.
-fn time_of(hour: u32) -> u64
+pub(crate) fn time_of(hour: u32) -> u64
     requires { hour ≤ 8760 }
     ensures { result ≡ time_of hour }
 {

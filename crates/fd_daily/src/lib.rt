@@ -1,8 +1,9 @@
 // The hours of a Solve: a settle at each hour, with the powers of that hour.
 //
 // A snapshot is one settle at hour 0. A day is a settle at each of its hours in order, up to the first that doesn't end
-// well: positions and the banks' opening times are kept from hour to hour, and each hour starts with an empty queue. So
-// whatever states are chosen in the balls of the rounds, the acts of all hours are these (`run_law`).
+// well. Positions and the banks' opening times are kept from hour to hour; where the time goes on with the hours, so are
+// the queue and the latest moves, so that no entry is lost, and else each hour starts without. So whatever states are
+// chosen in the balls of the rounds, the acts of all hours are these (`run_law`).
 //
 // - `day`: where a Solve stands between its hours
 // - `underway`: the start of a Solve, and the network of each hour behind the first

@@ -1,23 +1,26 @@
 // The settle of the next hour of a Solve.
-ghost use Rattle.std.specs.Prelude.{◌≡◌, is_ok};
+ghost use Rattle.std.specs.Prelude.{◌≡◌, IfSome, OnOk, is_ok};
 ghost use Rattle.fd_settle.specs.dss_ready.Ready.{HasPassed};
 ghost use Rattle.fd_settings.specs.Hours.{hour_powers};
 ghost use Rattle.fd_settle.specs.fd_network.Built.{IsBuiltOf};
 ghost use Rattle.fd_settle.specs.fd_sample.Probes.{positions_in};
+ghost use Rattle.fd_settle.specs.Controls.{AreAtWork};
 ghost use Rattle.fd_settle.specs.Contract.{CallsAs, EndsAs, limits_of};
 ghost use Rattle.fd_settle.specs.Rounds.{AtEach, acts_in, claims_in};
 ghost use Rattle.fd_settle.specs.Start.{ArePositions, IsSoundAt};
-ghost use Rattle.fd_daily.specs.Day.{IsDayOf, begun_hour, hour_in, hour_kept, hours_done, hours_left};
-ghost use Rattle.fd_daily.specs.Underway.{IsUnderway, plant_at, settled_hour};
+ghost use Rattle.fd_daily.specs.Day.{IsDay, MayBegin, begun_hour, hour_in, hour_kept, hours_done, hours_left};
+ghost use Rattle.fd_daily.specs.Underway.{IsUnderway, machine_in, plant_at, settled_hour};
 
+use crate::day::time_of;
 use crate::underway::Underway;
 use fd_settings::{Circuit, Positions};
 use fd_settle::{SettleFault, Solver, settle};
 use std::alloc::Global;
 
 /// Solves the next hour of a Solve that is under way: one settle at the time of the hour, whose rounds are left in
-/// `rounds`. The circuit passed the tests of Solve. Positions and the banks' opening times are what the acts left; where
-/// the settle ended well, the hour behind it comes next.
+/// `rounds`. The circuit passed the tests of Solve. Positions, the banks' opening times, latest moves and the queue are
+/// what the acts left; where the settle ended well, the hour behind it comes next. Where the time goes on with the hours,
+/// the queue and the latest moves are kept over them, and else each hour begins without.
 ///
 /// # Errors
 /// Those of `settle`. After each of them the same hour comes next.
@@ -30,21 +33,22 @@ pub fn daily_run<V: Solver>(
 ) -> Result<(), SettleFault<V::Fault>>
     requires ready { HasPassed circuit.now }
     requires underway { IsUnderway circuit.now at.old underway.old }
-    // The rounds are those of this hour alone. Their acts are those of the settle over their certified states, at the
-    // time of the hour and with the opening times of the hours before; the positions and the opening times are what
-    // these acts left.
-    ensures acts { acts_in underway.new.rounds.items ≡ (settled_hour circuit.now at.old underway.old.day underway.new.rounds.items).rounds }
-    ensures at { positions_in at.new ≡ (settled_hour circuit.now at.old underway.old.day underway.new.rounds.items).machine.at }
-    ensures opened { underway.new.day.opened ≡ (settled_hour circuit.now at.old underway.old.day underway.new.rounds.items).machine.opened }
+    // The rounds are those of this hour alone. Their acts are those of the settle over their certified states, from the
+    // machine with which the hour begins by what the hour before left; positions and controls then show what it leaves.
+    ensures acts { acts_in underway.new.rounds.items
+        ≡ (settled_hour circuit.now underway.old.day (machine_in at.old underway.old) underway.new.rounds.items).rounds }
+    ensures machine { machine_in at.new underway.new
+        ≡ (settled_hour circuit.now underway.old.day (machine_in at.old underway.old) underway.new.rounds.items).machine }
     // How it ends is how that settle ends.
     ensures ends { EndsAs (plant_at circuit.now (hour_in underway.old.day)) result
-        (settled_hour circuit.now at.old underway.old.day underway.new.rounds.items).end
-        (settled_hour circuit.now at.old underway.old.day underway.new.rounds.items).machine }
+        (settled_hour circuit.now underway.old.day (machine_in at.old underway.old) underway.new.rounds.items).end
+        (settled_hour circuit.now underway.old.day (machine_in at.old underway.old) underway.new.rounds.items).machine }
     // The solver was called once for each of these rounds, in order, and once more where it answered a fault.
     ensures calls { CallsAs (λ v. V.gives v (limits_of circuit.now.options)) (plant_at circuit.now (hour_in underway.old.day)) solver.old
-        (begun_hour circuit.now at.old underway.old.day) underway.new.rounds.items result solver.new }
+        (begun_hour circuit.now underway.old.day (machine_in at.old underway.old)) underway.new.rounds.items result solver.new }
     ensures sound { AtEach (IsSoundAt circuit.now (hour_powers circuit.now.elements (hour_in underway.old.day)))
-        (plant_at circuit.now (hour_in underway.old.day)) (begun_hour circuit.now at.old underway.old.day) (claims_in underway.new.rounds.items) }
+        (plant_at circuit.now (hour_in underway.old.day))
+        (begun_hour circuit.now underway.old.day (machine_in at.old underway.old)) (claims_in underway.new.rounds.items) }
     // The hours that are left are those behind it where it ended well, and else the same.
     ensures hour { underway.new.day.hour ≡ hour_kept (is_ok result) (hour_in underway.old.day) underway.old.day }
     ensures last { underway.new.day.last ≡ underway.old.day.last }
@@ -52,22 +56,27 @@ pub fn daily_run<V: Solver>(
     // What the next hour asks for.
     ensures powers { underway.new.powers ≡ underway.old.powers }
     ensures positions { ArePositions circuit.now underway.new.powers.loads (positions_in at.new) }
-    ensures day { IsDayOf circuit.now underway.new.day }
+    ensures day { IsDay underway.new.day }
     ensures built { IsBuiltOf underway.new.net circuit.now }
+    ensures work { AreAtWork circuit.now at.new underway.new.clock underway.new.controls }
+    ensures numbers { OnOk result (IfSome underway.new.day.hour (λ k. MayBegin k (machine_in at.new underway.new).next)) }
 {
     let hour = underway.hour();
     underway.rounds.clear();
-    let mut clock = underway.day.take_clock(alloc, hour);
+    underway
+        .controls
+        .begin_hour(&mut underway.clock, time_of(hour));
     let ended = settle(
         alloc,
         circuit,
         &mut underway.net,
         &underway.powers,
         at,
-        &mut clock,
+        &mut underway.clock,
+        &mut underway.controls,
         solver,
         &mut underway.rounds,
     );
-    underway.day.keep(clock, hour, ended.is_ok());
+    underway.day.end_hour(hour, ended.is_ok());
     ended
 }

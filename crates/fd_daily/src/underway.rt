@@ -1,28 +1,28 @@
 // The hours of a Solve under way.
 ghost use Rattle.std.specs.Prelude.{◌≡◌, All, IfErr, IfOk, IsSome, OnErr, OnOk};
 ghost use Rattle.fd_settle.specs.dss_ready.Ready.{HasPassed};
-ghost use Rattle.fd_settle.specs.fd_network.Built.{IsBuiltOf};
 ghost use Rattle.fd_settle.specs.fd_sample.Probes.{positions_in};
-ghost use Rattle.fd_settle.specs.Start.{ArePositions};
 ghost use Rattle.fd_settings.specs.fd_xfmr.Leakage.{AreTaps};
-ghost use Rattle.fd_daily.specs.Day.{IsDayOf, hour_in, hours_left, no_openings};
+ghost use Rattle.fd_daily.specs.Day.{MayBegin, before_first, hour_in, hours_left};
 ghost use Rattle.fd_daily.specs.Hours.{hours_of};
-ghost use Rattle.fd_daily.specs.Underway.{IsRefusedAt, IsUnderway, start_from};
+ghost use Rattle.fd_daily.specs.Underway.{IsAfterHour, IsRefusedAt, IsUnderway, machine_in, start_from};
 
-use crate::day::Day;
+use crate::day::{Day, no_openings};
 use fd_settings::{
     BuildFault, Circuit, Positions, Powers, hours_law, next_law, next_positions, powers_at,
 };
-use fd_settle::{Network, Round};
+use fd_settle::{Clock, Controls, Network, Round};
 use std::alloc::Global;
 
-/// The hours of a Solve under way: the network with the powers of the next hour, where the Solve stands, and room for the
-/// rounds of an hour.
+/// The hours of a Solve under way: the network with the powers of the next hour, where the Solve stands, the time and the
+/// controls as the hour before left them, and room for the rounds of an hour.
 #[derive(Drop)]
 pub struct Underway {
     pub net: Network,
     pub powers: Powers,
     pub day: Day,
+    pub clock: Clock,
+    pub controls: Controls,
     pub rounds: Vec<Round>,
 }
 
@@ -43,7 +43,7 @@ impl Underway {
         ensures start { OnOk result (positions_in at.new ≡ start_from circuit.now (positions_in at.old)) }
         ensures underway { IfOk result (IsUnderway circuit.now at.new) }
         ensures left { IfOk result (λ u. hours_left u.day ≡ hours_of circuit.now.options) }
-        ensures opened { IfOk result (λ u. u.day.opened ≡ no_openings circuit.now) }
+        ensures machine { IfOk result (λ u. machine_in at.new u ≡ before_first circuit.now (positions_in at.new)) }
         ensures refused { IfErr result (IsRefusedAt circuit.now (hours_of circuit.now.options) (start_from circuit.now (positions_in at.old))) }
         ensures as_before { OnErr result (at.new ≡ at.old) }
     {
@@ -51,22 +51,26 @@ impl Underway {
         let _elements = circuit.elements();
         next_law();
         hours_law();
-        let day = Day::start(alloc, circuit)?;
+        let day = Day::start(circuit);
         let start = next_positions(alloc, circuit, at)?;
         let hour = day.next_hour().unwrap();
         let powers = powers_at(alloc, circuit, hour)?;
-        match Network::build(alloc, circuit, &start, &powers) {
-            Ok(net) => {
-                *at = start;
-                Ok(Underway {
-                    net,
-                    powers,
-                    day,
-                    rounds: Vec::new(alloc),
-                })
-            }
-            Err(fault) => Err(fault),
-        }
+        let net = match Network::build(alloc, circuit, &start, &powers) {
+            Ok(net) => net,
+            Err(fault) => return Err(fault),
+        };
+        let opened = no_openings(alloc, circuit)?;
+        let clock = Clock { now: 0, opened };
+        let controls = Controls::start(alloc, circuit, net.layout(), &clock)?;
+        *at = start;
+        Ok(Underway {
+            net,
+            powers,
+            day,
+            clock,
+            controls,
+            rounds: Vec::new(alloc),
+        })
     }
 
     /// The hour that comes next, where one is left: 0 for a snapshot, from 1 on for a day.
@@ -88,12 +92,12 @@ impl Underway {
         at: &Positions,
     ) -> Result<(), BuildFault>
         requires ready { HasPassed circuit.now }
-        requires positions { ArePositions circuit.now self.old.powers.loads (positions_in at.now) }
-        requires day { IsDayOf circuit.now self.old.day }
+        requires after_hour { IsAfterHour circuit.now at.now self.old }
         requires hour { IsSome self.old.day.hour }
-        requires built { IsBuiltOf self.old.net circuit.now }
+        requires numbers { MayBegin (hour_in self.old.day) (machine_in at.now self.old).next }
         ensures underway { OnOk result (IsUnderway circuit.now at.now self.new) }
         ensures day { self.new.day ≡ self.old.day }
+        ensures machine { machine_in at.now self.new ≡ machine_in at.now self.old }
         ensures refused { IfErr result (IsRefusedAt circuit.now (hours_left self.old.day) (positions_in at.now)) }
         ensures as_before { OnErr result (self.new ≡ self.old) }
     {

@@ -1,9 +1,9 @@
 -- A settle as data: where it started, its rounds, how it ended, and what it leaves.
-use Rattle.std.specs.Prelude.{ℕ, ℤ, List, Option}
+use Rattle.std.specs.Prelude.{ℕ, ℤ, List}
 use Rattle.fd_report.specs.dss_circuit.Circuit.{CircuitView}
 use Rattle.fd_report.specs.fd_enclosure.Sound.{Claim}
 use Rattle.fd_report.specs.fd_queue.Controls.{Positions}
-use Rattle.fd_report.specs.fd_queue.Machine.{Act}
+use Rattle.fd_report.specs.fd_queue.Machine.{Act, Machine}
 use Rattle.fd_report.specs.declared.faults.Fault.{Fault}
 
 -- A state that the procedure reaches, by place, in whole microvolts and microamperes, with its certificate: the radius
@@ -32,15 +32,14 @@ pub data SettleEnd : Type 0 where
   -- the last state has no certificate: what would have been claimed of it, with radii 0, and the fault
   without_certificate : Round → Fault → SettleEnd
 
--- of a circuit, by the number of its Solve in the run, from 1; the hour is 0 in a snapshot. It starts with the
--- positions of taps and banks and the last opening time of each bank, none where it wasn't opened in this Solve, and
--- leaves the positions
+-- of a circuit, by the number of its Solve in the run, from 1; the hour is 0 in a snapshot. It begins with this machine:
+-- the positions of taps and banks, the last opening time of each bank, and where the time goes on with the hours what the
+-- hour before left of the queue and of latest moves. It leaves the positions
 pub record Settle : Type 0 where
   pub number : ℕ
   pub hour : ℕ
   pub circuit : CircuitView
-  pub start : Positions
-  pub opened : List (Option ℕ)
+  pub begun : Machine
   pub rounds : List Round
   pub end : SettleEnd
   pub left : Positions

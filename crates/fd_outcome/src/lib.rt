@@ -25,7 +25,8 @@ pub use fd_certfile::{
     header_record, upgrade, write_block,
 };
 pub use fd_report::{
-    Cause, Certified, Fault, Network, Position, Probe, RegProbe, Scale, Session, SessionFault,
-    Solution, accepted_record, act_record, bank_record, base_record, name_at, probes, record,
-    records, said_law, said_room_law, short_records, size_text, status, tap_record,
+    Cause, Certified, Entry, Fault, Network, Position, Probe, RegProbe, Scale, Session,
+    SessionFault, Solution, accepted_record, act_record, bank_record, base_record, name_at,
+    pending_record, probes, record, records, said_law, said_room_law, short_records, size_text,
+    status, tap_record,
 };

@@ -1,3 +1,4 @@
 mod Recorded
 mod Blocks
+mod Waiting
 pub mod CallerLemmas

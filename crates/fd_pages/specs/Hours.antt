@@ -8,6 +8,7 @@ use Rattle.fd_outcome.specs.fd_cert.declared.ball.Certified.{Certified}
 use Rattle.fd_outcome.specs.fd_certfile.Rounds.{IsClaimOf, IsRoundOf}
 use Rattle.fd_settings.specs.Hours.{hour_powers}
 use Rattle.fd_outcome.specs.fd_queue.Controls.{Positions}
+use Rattle.fd_outcome.specs.fd_queue.Machine.{Machine}
 use Rattle.fd_outcome.specs.fd_report.Solutions.{IsOfSize}
 use Rattle.fd_outcome.specs.fd_report.declared.faults.Fault.{Fault}
 use Rattle.fd_outcome.specs.fd_settle.declared.round.Round.{Round as Made}
@@ -19,21 +20,18 @@ use Rattle.fd_outcome.specs.Settles.{Round, Settle, SettleEnd, failed, round_of,
 
 -- ---- the settle
 
--- what is kept from hour to hour of a Solve: the positions, the last opening time of each bank, none where it wasn't
--- opened in this Solve, and how many settles there were so far
+-- what is kept from hour to hour of a Solve: the machine, and how many settles there were so far
 pub record Kept : Type 0 where
-  pub at : Positions
-  pub opened : List (Option ℕ)
+  pub machine : Machine
   pub settled : ℕ
 
--- the settle of an hour that starts with what was kept: settles are numbered from 1 in the whole run
+-- the settle of an hour that begins with this machine: settles are numbered from 1 in the whole run
 abbrev pub hour_settle : CircuitView → ℕ → Kept → List Round → SettleEnd → Positions → Settle
 hour_settle c hour l rounds end left = record {
   number = l.settled + 1;
   hour = hour;
   circuit = c;
-  start = l.at;
-  opened = l.opened;
+  begun = l.machine;
   rounds = rounds;
   end = end;
   left = left;

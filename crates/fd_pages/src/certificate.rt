@@ -12,7 +12,7 @@ ghost use Rattle.fd_pages.specs.Hours.{IsSettleAt, IsTriedOf, last_texts, round_
 
 use crate::page::{Page, SolvedHour};
 use fd_bases::Circuit;
-use fd_outcome::{Certified, Record, Round, end_record, header_record, write_block};
+use fd_outcome::{Certified, Entry, Record, Round, end_record, header_record, write_block};
 use fd_settings::Positions;
 use std::alloc::{AllocError, Global};
 
@@ -115,6 +115,14 @@ impl Page for Certificate {
     fn law() {}
 
     fn bases(alloc: Global, _circuit: &Circuit) -> Result<Vec<Record>, AllocError> {
+        Ok(Vec::new(alloc))
+    }
+
+    fn pending(
+        alloc: Global,
+        _circuit: &Circuit,
+        _entries: &[Entry],
+    ) -> Result<Vec<Record>, AllocError> {
         Ok(Vec::new(alloc))
     }
 

@@ -5,17 +5,19 @@
 //! what stands last. Nothing is written here.
 //!
 //! Specs: `Hours`: the settle of an hour, as the code made it, and what of it can be printed; `Bases`: voltage bases
-//! as events; `Lines`: the style of lines of text alone; `Places`: where controls stand among a circuit's elements.
+//! as events; `Pending`: what still waits behind the last hour of a Solve;
+//! `Lines`: the style of lines of text alone; `Places`: where controls stand among a circuit's elements.
 //!
 //! - `page`: a way to print settles
 //! - `controls`: the controls of a circuit
-//! - `records`: the records of a settle
+//! - `records`: the records of a settle; `pending`: of what still waits behind the last hour of a Solve
 //! - `report`, `certificate`, `summary`: settles as records, as blocks of a certificate, not at all
 #![tactic(auto)]
 
 mod certificate;
 mod controls;
 mod page;
+mod pending;
 mod records;
 mod report;
 mod summary;
@@ -29,7 +31,7 @@ pub use summary::Summary;
 // Handed on from the crates below.
 pub use fd_bases::Layout;
 pub use fd_outcome::{
-    Cause, CertFileFault, Certified, Fault, Found, LibFault, Library, Record, Round, Scale,
+    Cause, CertFileFault, Certified, Entry, Fault, Found, LibFault, Library, Record, Round, Scale,
     Session, SessionFault, Sink, SinkFault, Solution, accepted_record, emit, name_at, read_law,
     record, said_law, said_room_law, short_records, size_text, status, status_law, upgrade,
 };

@@ -11,10 +11,11 @@ ghost use Rattle.fd_outcome.specs.Events.{row, settle};
 ghost use Rattle.fd_outcome.specs.Settles.{Settle, failed, settled};
 ghost use Rattle.fd_pages.specs.Hours.{IsPrintable, IsTriedOf, settle_made, end_with, Kept};
 ghost use Rattle.fd_pages.specs.Bases.{base_events};
+ghost use Rattle.fd_pages.specs.Pending.{pending_events};
 ghost use Rattle.fd_bases.specs.dss_layout.Layout.{layout_of, size_of};
 
 use fd_bases::Circuit;
-use fd_outcome::{Certified, Network, Record, Round};
+use fd_outcome::{Certified, Entry, Network, Record, Round};
 use fd_settings::Positions;
 use std::alloc::{AllocError, Global};
 
@@ -53,6 +54,14 @@ pub trait Page {
     /// The texts of the voltage bases of a circuit's buses.
     fn bases(alloc: Global, circuit: &Circuit) -> Result<Vec<Record>, AllocError>
         ensures { IfOk result (λ r. pieces_of r.items ≡ flat_map style.texts_in (base_events circuit.now)) };
+
+    /// The texts of entries that wait in the queue behind the last hour of a Solve.
+    fn pending(
+        alloc: Global,
+        circuit: &Circuit,
+        entries: &[Entry],
+    ) -> Result<Vec<Record>, AllocError>
+        ensures { IfOk result (λ r. pieces_of r.items ≡ flat_map style.texts_in (pending_events circuit.now entries.now)) };
 
     /// The texts of an hour's settle that ended well, at these positions.
     fn settled(

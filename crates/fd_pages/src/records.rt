@@ -32,7 +32,7 @@ use fd_settings::Positions;
 use std::alloc::{AllocError, Global};
 
 // The places of a circuit's controls among its elements, in the script's order.
-fn control_places(alloc: Global, circuit: &Circuit) -> Result<Vec<usize>, AllocError>
+pub(crate) fn control_places(alloc: Global, circuit: &Circuit) -> Result<Vec<usize>, AllocError>
     ensures { IfOk result (λ places. AreControlPlaces circuit.now.elements places.items) }
 {
     let mut places = Vec::new(alloc);

@@ -2,9 +2,10 @@
 ghost use Rattle.fd_outcome.specs.Calls.{report};
 
 use crate::page::{Page, SolvedHour};
+use crate::pending::pending_records;
 use crate::records::{base_records, failed_records, settled_records};
 use fd_bases::Circuit;
-use fd_outcome::{Certified, Record};
+use fd_outcome::{Certified, Entry, Record};
 use fd_settings::Positions;
 use std::alloc::{AllocError, Global};
 
@@ -26,6 +27,14 @@ impl Page for Report {
 
     fn bases(alloc: Global, circuit: &Circuit) -> Result<Vec<Record>, AllocError> {
         base_records(alloc, circuit)
+    }
+
+    fn pending(
+        alloc: Global,
+        circuit: &Circuit,
+        entries: &[Entry],
+    ) -> Result<Vec<Record>, AllocError> {
+        pending_records(alloc, circuit, entries)
     }
 
     fn settled(

@@ -3,7 +3,7 @@ ghost use Rattle.fd_pages.specs.Lines.{lines_of_text};
 
 use crate::page::{Page, SolvedHour};
 use fd_bases::Circuit;
-use fd_outcome::{Certified, Record};
+use fd_outcome::{Certified, Entry, Record};
 use fd_settings::Positions;
 use std::alloc::{AllocError, Global};
 
@@ -24,6 +24,14 @@ impl Page for Summary {
     fn law() {}
 
     fn bases(alloc: Global, _circuit: &Circuit) -> Result<Vec<Record>, AllocError> {
+        Ok(Vec::new(alloc))
+    }
+
+    fn pending(
+        alloc: Global,
+        _circuit: &Circuit,
+        _entries: &[Entry],
+    ) -> Result<Vec<Record>, AllocError> {
         Ok(Vec::new(alloc))
     }
 

@@ -10,7 +10,7 @@ use Rattle.fd_picture.specs.Drafts.{DraftView, ReportView, empty_draft}
 use Rattle.fd_picture.specs.Numbers.{decimal_of, whole_of}
 use Rattle.fd_picture.specs.Fields.{at}
 use Rattle.fd_picture.specs.Lines.{is_at, unfit_in}
-use Rattle.fd_picture.specs.Reading.{Bad, act_to, bank_to, base_to, counted, counts, fault_to, finished, has_branch_form, has_magnitude_form, is_kind, kept_panels, node_in, node_to, other_record, passed_over, read_from, record_to, report_of, row_to, solution_to, tap_to, unless_unfit, with_base, with_entry, with_node, with_open, with_round}
+use Rattle.fd_picture.specs.Reading.{Bad, act_to, bank_to, base_to, counted, counts, fault_to, finished, has_branch_form, has_magnitude_form, has_pending_form, is_kind, kept_panels, node_in, node_to, other_record, passed_over, read_from, record_to, report_of, row_to, solution_to, tap_to, unless_unfit, with_base, with_entry, with_node, with_open, with_round}
 use Rattle.fd_picture.specs.Strips.{drawn, rows_from, strip_by, strips_of}
 use Rattle.fd_picture.specs.declared.fault.Cause.{Cause}
 use Rattle.fd_picture.specs.declared.fault.Cause.TheVariants as cause
@@ -119,11 +119,13 @@ other_kept d fields h =
     (counted_kept (counts fields 3) (tap_to d fields) (open_kept d.current _ h.1 (λ panel o. entry_kept d _ _ h)))
     (keeps_if (is_kind fields (codes "bank")) _ _
     (counted_kept (counts fields 3) (bank_to d fields) (open_kept d.current _ h.1 (λ panel o. entry_kept d _ _ h)))
+    (keeps_if (is_kind fields (codes "pending")) _ _
+    (counted_kept (counts fields 4) (passed_over d (has_pending_form fields)) (passed_kept d (has_pending_form fields) h))
     (keeps_if (is_kind fields (codes "base")) _ _
     (counted_kept (counts fields 3) (base_to d fields) (base_kept d (at fields 1) (decimal_of 6 (at fields 2)) h))
     (keeps_if (is_kind fields (codes "fault")) _ _
     (counted_kept (nat_lt 1 (length fields)) (fault_to d fields) (keeps_if _ _ _ (keeps_ok _ h) (keeps_err _)))
-    (keeps_err cause.UnknownRecord)))))
+    (keeps_err cause.UnknownRecord))))))
 
 record_kept : (d : DraftView) (fields : List (List ℕ)) → Holds d → Keeps (record_to d fields)
 unfolding record_to

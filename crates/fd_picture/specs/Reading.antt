@@ -1,5 +1,5 @@
 -- What a report's lines come to. A line is a list of bytes, and a record a list of fields.
-use Rattle.std.specs.Prelude.{◌≡◌, ℕ, ◌+◌, ◌-◌, ◌^◌, ◌==◌, ◌&&◌, nat_lt, Bool, true, false, List, [], ◌∷◌, ◌++◌, length, Option, Some, None, Result, Ok, Err, is_some, option_to_list, if◌then◌else◌, codes}
+use Rattle.std.specs.Prelude.{◌≡◌, ℕ, ◌+◌, ◌-◌, ◌^◌, ◌==◌, ◌&&◌, ◌||◌, nat_lt, Bool, true, false, List, [], ◌∷◌, ◌++◌, length, Option, Some, None, Result, Ok, Err, is_some, option_to_list, if◌then◌else◌, codes}
 use Rattle.std.specs.Str.{is_utf8}
 use Rattle.fd_exact.specs.Answers as answers
 use Rattle.fd_picture.specs.Drafts.{DraftView, ReportView, empty_draft}
@@ -57,6 +57,10 @@ has_tap_form fields = is_name (at fields 1) && is_decimal 5 (at fields 2)
 
 abbrev pub has_bank_form : List (List ℕ) → Bool
 has_bank_form fields = is_name (at fields 1) && is_bank_position (at fields 2)
+
+-- the form of an entry that waits: its time, its control, and up or down
+abbrev pub has_pending_form : List (List ℕ) → Bool
+has_pending_form fields = is_decimal 3 (at fields 1) && is_name (at fields 2) && (text_eq (at fields 3) (codes "up") || text_eq (at fields 3) (codes "down"))
 
 -- ---- what a record makes of a draft
 
@@ -157,6 +161,7 @@ other_record d fields =
     if is_kind fields (codes "act") then counted (counts fields 5) (act_to d fields)
     else if is_kind fields (codes "tap") then counted (counts fields 3) (tap_to d fields)
     else if is_kind fields (codes "bank") then counted (counts fields 3) (bank_to d fields)
+    else if is_kind fields (codes "pending") then counted (counts fields 4) (passed_over d (has_pending_form fields))
     else if is_kind fields (codes "base") then counted (counts fields 3) (base_to d fields)
     else if is_kind fields (codes "fault") then counted (nat_lt 1 (length fields)) (fault_to d fields)
     else Err cause.UnknownRecord

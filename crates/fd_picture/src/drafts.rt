@@ -4,7 +4,7 @@ ghost use Rattle.csv.specs.Records.{fields_of};
 ghost use Rattle.fd_picture.specs.Drafts.{empty_draft};
 ghost use Rattle.fd_picture.specs.Fields.{at as field_at};
 ghost use Rattle.fd_picture.specs.Numbers.{before_dot, behind_dot};
-ghost use Rattle.fd_picture.specs.Reading.{CountGives, Makes, act_to, bank_to, base_to, bare_node, counted, fault_to, finished, has_act_form, has_branch_form, has_magnitude_form, has_node_form, is_kind, kept_panels, node_in, node_to, other_record, passed_over, position_to, record_to, row_to, solution_to, tap_to, with_node};
+ghost use Rattle.fd_picture.specs.Reading.{CountGives, Makes, act_to, bank_to, base_to, bare_node, counted, fault_to, finished, has_act_form, has_branch_form, has_magnitude_form, has_node_form, has_pending_form, is_kind, kept_panels, node_in, node_to, other_record, passed_over, position_to, record_to, row_to, solution_to, tap_to, with_node};
 ghost use Rattle.fd_picture.specs.declared.fault.Cause.TheVariants as cause;
 ghost use Rattle.fd_picture.specs.declared.report.Entry.{Entry};
 ghost use Rattle.fd_picture.specs.declared.report.Kind.TheVariants as kind;
@@ -106,6 +106,14 @@ fn has_magnitude_form(row: &ByteRecord) -> bool
         && is_size(at(row, 4))
         && is_size(at(row, 5))
         && is_size(at(row, 6))
+}
+
+fn has_pending_form(row: &ByteRecord) -> bool
+    ensures { result ≡ has_pending_form (fields_of row.now) }
+{
+    is_time(at(row, 1))
+        && is_name(at(row, 2))
+        && (is_same(at(row, 3), b"up") || is_same(at(row, 3), b"down"))
 }
 
 #[tactic(auto, unfolding(crate::specs::Reading::has_act_form))]
@@ -356,6 +364,9 @@ fn other_record(alloc: Global, draft: &mut Draft, row: &ByteRecord) -> Result<()
     } else if is_kind(row, b"bank") {
         counted(row.len() == 3)?;
         bank_to(alloc, draft, row)
+    } else if is_kind(row, b"pending") {
+        counted(row.len() == 4)?;
+        passed_over(draft, has_pending_form(row))
     } else if is_kind(row, b"base") {
         counted(row.len() == 3)?;
         base_to(alloc, draft, row)

@@ -9,5 +9,6 @@ pub mod Counts
 pub mod Samplings
 pub mod Numbers
 pub mod EntryPlaces
+pub mod Dues
 pub mod Kept
 pub mod CallerLemmas

@@ -1,9 +1,11 @@
 -- The queue machine: a step takes one decision for each control, in the script's order.
-use Rattle.std.specs.Prelude.{◌≡◌, ℕ, ◌+◌, ◌*◌, max, nat_le, ℤ, pos, neg_ℤ, Bool, true, false, not, if◌then◌else◌, List, [], ◌∷◌, get_or, set, Option, Some, None}
+use Rattle.std.specs.Prelude.{◌≡◌, ℕ, ◌+◌, ◌*◌, max, nat_le, ℤ, pos, neg_ℤ, Bool, true, false, not, if◌then◌else◌, List, [], ◌∷◌, get_or, map, set, Option, Some, None}
 use Rattle.std.specs.List.{fold, list_any}
 use Rattle.fd_queue.specs.Decisions.{Decision, Hold, steps_of, way_of, is_way}
 use Rattle.fd_queue.specs.Controls.{Control, Regulates, Switches, BankSwitch, Positions, tap_at, with_tap, moved_tap, is_closed, with_bank}
 use Rattle.fd_queue.specs.declared.entry.Entry.{Entry}
+use Rattle.fd_queue.specs.declared.timing.Timing.{Timing}
+use Rattle.fd_queue.specs.declared.timing.Timing.TheVariants as timing
 use Rattle.fd_queue.specs.Queue.{QueueView, has_entry, kept_way, queued, nearest, later}
 
 pub record Machine : Type 0 where
@@ -26,6 +28,21 @@ pub record Rule : Type 0 where
 -- in a settle the time stands still: every entry is due, and acts at its own time
 abbrev pub settle_rule : Rule
 settle_rule = record { is_due = λ now e. true; acts_at = λ now e. e.time }
+
+-- where the time goes on with the hours, an entry is due from its time on, and acts at the time of the machine
+abbrev pub clock_rule : Rule
+clock_rule = record { is_due = λ now e. nat_le e.time now; acts_at = λ now e. now }
+
+abbrev pub rule_of : Timing → Rule
+rule_of timing.Static = settle_rule
+rule_of timing.Clock = clock_rule
+
+-- The machine with which an hour begins at this time, by what the hour before in its Solve left. Positions and opening
+-- times stay, and acts are counted anew. In static mode an hour begins with an empty queue and no moves, and numbers
+-- entries anew; by the clock all of these stay, so that an entry waits over the hours for its time.
+abbrev pub hour_begun : Timing → ℕ → Machine → Machine
+hour_begun timing.Static now m = record m { now = now; moves = map (λ x. None) m.moves; queue = []; next = 0; made = 0 }
+hour_begun timing.Clock now m = record m { now = now; made = 0 }
 
 pub record Setup : Type 0 where
   pub rule : Rule

@@ -16,6 +16,7 @@ mod laws;
 mod places;
 mod queue;
 mod times;
+mod timing;
 mod verdict;
 
 pub use entry::Entry;
@@ -24,6 +25,7 @@ pub use laws::{
     quiet_law, room_law, sampled_law, spare_law, value_law,
 };
 pub use queue::Queue;
+pub use timing::Timing;
 pub use verdict::Verdict;
 
 // Handed on from the crates below.

@@ -1,11 +1,14 @@
 // The timed queue.
 ghost use Rattle.std.specs.Prelude.{◌≡◌, ◌+◌, ◌-◌, ◌^◌, ◌<◌, ◌≤◌, false, [], length, IfOk, vec_capacity};
+ghost use Rattle.std.specs.List.{list_any};
 ghost use Rattle.fd_queue.specs.Decisions.{is_way};
+ghost use Rattle.fd_queue.specs.Machine.{rule_of};
 ghost use Rattle.fd_queue.specs.Queue.{IsQueue, entry_of, has_entry, kept_way, later, nearest, queued, without};
 
 use crate::entry::Entry;
 use crate::places::{place_after, place_of};
 use crate::times::{copy_of_time, keep_others};
+use crate::timing::Timing;
 use std::alloc::{AllocError, Global};
 use std::marker::Model;
 
@@ -48,6 +51,23 @@ impl Queue {
         })
     }
 
+    /// The entries, in order.
+    pub fn entries(&self) -> &[Entry]
+        ensures { result.now ≡ self.now.entries }
+    {
+        &self.entries
+    }
+
+    /// Whether an entry is due at this time, in milliseconds.
+    pub fn is_due(&self, timing: Timing, now: u64) -> bool
+        ensures { result ≡ list_any ((rule_of timing).is_due now) self.now.entries }
+    {
+        match self.entries.first() {
+            Some(first) => timing.is_due(now, first),
+            None => false,
+        }
+    }
+
     /// The entry of a control, if it has one. Whatever was done to a queue, it is sorted and holds at most one entry of
     /// each control.
     pub fn find(&self, control: u32) -> Option<Entry>
@@ -87,6 +107,16 @@ impl Queue {
         };
         let _ = self.entries.insert(place, entry);
         self.next += 1;
+    }
+
+    /// Takes all entries out, and numbers entries from 0 again.
+    pub fn clear(&mut self)
+        ensures entries { self.new.entries ≡ [] }
+        ensures next { self.new.next ≡ 0 }
+        ensures room { self.new.spare ≡ self.old.spare + length self.old.entries }
+    {
+        self.entries.clear();
+        self.next = 0;
     }
 
     /// Takes a control's entry out, if it has one, and gives it.

@@ -22,5 +22,6 @@ pub use state::RegState;
 // Handed on from the crates below.
 pub use fd_queue::{
     Coef, Cx, Enclose, Ends, Entry, Interval, Micro, NodeAt, NodesAt, Queue, Square, TapPair,
-    Verdict, count_law, floor_of_product, own_law, queue_law, room_law, sampled_law, spare_law,
+    Timing, Verdict, count_law, floor_of_product, own_law, queue_law, room_law, sampled_law,
+    spare_law,
 };

@@ -65,6 +65,13 @@ impl RegState {
         }
     }
 
+    /// Forgets the latest move.
+    pub fn forget_move(&mut self)
+        ensures { self.new ≡ record self.old { moved = None } }
+    {
+        self.moved = None;
+    }
+
     /// Takes the verdict of a sample. The control's entry goes where the verdict is Hold, has no steps or goes the
     /// other way; then a control without an entry whose verdict has steps is queued, for now + delay, or for
     /// now + tapdelay where its latest move went the same way. An entry that stays keeps its time.

@@ -33,6 +33,14 @@ act_fields time control steps after = codes "act" ∷ time_text time ∷ element
 abbrev pub tap_fields : ElementName → ℕ → List (List ℕ)
 tap_fields control tap = codes "tap" ∷ element_field control ∷ tap_text tap ∷ []
 
+abbrev pub way_text : Bool → List ℕ
+way_text true = codes "up"
+way_text false = codes "down"
+
+-- an entry that waits in the queue: its time in milliseconds, its control, and which way that is to go
+abbrev pub pending_fields : ℕ → ElementName → Bool → List (List ℕ)
+pending_fields time control up = codes "pending" ∷ time_text time ∷ element_field control ∷ way_text up ∷ []
+
 -- whether a bank is closed
 abbrev pub bank_fields : ElementName → Bool → List (List ℕ)
 bank_fields bank is_closed = codes "bank" ∷ element_field bank ∷ position_text (bank_position is_closed) ∷ []

@@ -1,7 +1,7 @@
 // The records of controls and of what they leave.
 ghost use Rattle.std.specs.Prelude.{◌≡◌, IfOk};
 ghost use Rattle.fd_report.specs.Lines.{line_of};
-ghost use Rattle.fd_report.specs.Controls.{act_fields, bank_fields, bank_position, position_text, tap_fields, tap_text, time_text};
+ghost use Rattle.fd_report.specs.Controls.{act_fields, bank_fields, bank_position, pending_fields, position_text, tap_fields, tap_text, time_text, way_text};
 
 use crate::line::record_of;
 use crate::names::element_field;
@@ -105,4 +105,39 @@ pub fn bank_record(alloc: Global, bank: &ElementName, is_closed: bool) -> Result
     let bank = element_field(alloc, bank)?;
     let position = position_text(alloc, bank_position(is_closed))?;
     record_of(alloc, &[b"bank", bank.as_slice(), position.as_slice()])
+}
+
+/// The record of an entry that waits in the queue, as `pending,4000.000,regcontrol.a,up`: its time, in whole milliseconds,
+/// as seconds; its control; and whether that is to go up (more taps, or a closed bank) or down.
+pub fn pending_record(
+    alloc: Global,
+    time: u64,
+    control: &ElementName,
+    up: bool,
+) -> Result<Record, AllocError>
+    ensures { IfOk result (λ r. r.bytes ≡ line_of (pending_fields time control.now up)) }
+{
+    let time = time_text(alloc, time)?;
+    let control = element_field(alloc, control)?;
+    let way = way_text(alloc, up)?;
+    record_of(
+        alloc,
+        &[
+            b"pending",
+            time.as_slice(),
+            control.as_slice(),
+            way.as_slice(),
+        ],
+    )
+}
+
+// Up or down.
+fn way_text(alloc: Global, up: bool) -> Result<Vec<u8>, AllocError>
+    ensures { IfOk result (λ v. v.items ≡ way_text up) }
+{
+    if up {
+        copied(alloc, b"up")
+    } else {
+        copied(alloc, b"down")
+    }
 }

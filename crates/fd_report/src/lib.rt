@@ -34,7 +34,7 @@ mod texts;
 
 pub use accepted::accepted_record;
 pub use bases::base_record;
-pub use controls::{Position, act_record, bank_record, tap_record};
+pub use controls::{Position, act_record, bank_record, pending_record, tap_record};
 pub use faults::{Cause, Fault, Scale, name_at, record, status};
 pub use laws::size_law;
 pub use report::records;
@@ -44,4 +44,4 @@ pub use solution::Solution;
 // Handed on from the crates below.
 pub use dss_script::{Session, SessionFault, said_law, said_room_law, size_text};
 pub use fd_cert::Certified;
-pub use fd_sample::{Network, Probe, RegProbe, probes};
+pub use fd_sample::{Entry, Network, Probe, RegProbe, probes};

@@ -56,6 +56,6 @@ pub use fd_network::{
     PhaseName, Positions, Powers, ReadyFault, Taps, network_law, passed_law, ready,
 };
 pub use fd_regctl::{
-    Entry, Queue, RegState, Verdict, count_law, own_law, queue_law, room_law, sampled_law,
+    Entry, Queue, RegState, Timing, Verdict, count_law, own_law, queue_law, room_law, sampled_law,
     spare_law, tap_law,
 };

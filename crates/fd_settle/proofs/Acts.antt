@@ -12,7 +12,9 @@ use Rattle.fd_sample.specs.fd_xfmr.Leakage.{AreTaps}
 use Rattle.fd_sample.specs.fd_capctl.CapState.{IsEarly, opened_at}
 use Rattle.fd_sample.specs.fd_queue.Controls.{moved_tap, no_taps, set_tap, tap_of}
 use Rattle.fd_sample.specs.fd_queue.Decisions.{Decision, Raise, Hold, Lower, is_raise, steps_of, way_of}
-use Rattle.fd_sample.specs.fd_queue.Machine.{Act, Machine, Setup, acted, acts_of, moved, moved_by, no_control, settle_rule, signed_steps}
+use Rattle.fd_sample.specs.fd_queue.Machine.{Act, Machine, Setup, Rule, acted, acts_of, moved, moved_by, no_control, rule_of, signed_steps}
+use Rattle.fd_sample.specs.fd_queue.declared.timing.Timing.{Timing}
+use Rattle.fd_sample.specs.fd_queue.declared.timing.Timing.TheVariants as timing
 use Rattle.fd_sample.specs.fd_queue.Queue.{HaveOneEach, InPairs}
 use Rattle.fd_sample.specs.fd_queue.declared.entry.Entry.{Entry}
 use Rattle.fd_sample.specs.fd_regctl.RegState.{moved_pair}
@@ -42,11 +44,12 @@ opened_by : (up : Bool) (time bank : ℕ) (o : Option ℕ) (opened : List (Optio
 opened_by true time bank o opened h = sym (set-get_or opened bank None) ∙ ap (set opened bank) (sym h)
 opened_by false time bank o opened h = refl
 
-moved_once : (taps : List TapPair) (closed : List Bool) (opened : List (Option ℕ)) (ss : List ControlState) (m : Machine) (s : ControlState) (e : Entry) →
+moved_once : (rule : Rule) (now : ℕ) (taps : List TapPair) (closed : List Bool) (opened : List (Option ℕ)) (ss : List ControlState) (m : Machine) (s : ControlState) (e : Entry) →
     IsStateOf opened e.control s → way_of (verdict_in s) ≡ Some e.up →
-    moved_by settle_rule (control_in s) (verdict_in s) (acting taps closed opened ss m) e
-    ≡ acting (acted_taps s taps) (acted_closed s closed) (acted_opened e.time s opened) (set ss e.control (acted_state e.time s)) m
-moved_once taps closed opened ss m (state.Regulator p s) e h w =
+    moved_by rule (control_in s) (verdict_in s) (acting now taps closed opened ss m) e
+    ≡ acting now (acted_taps s taps) (acted_closed s closed) (acted_opened (rule.acts_at now e) s opened)
+    (set ss e.control (acted_state (rule.acts_at now e) s)) m
+moved_once rule now taps closed opened ss m (state.Regulator p s) e h w =
     let up : e.up ≡ is_raise s.verdict = sym (raise_way s.verdict e.up w) in
     let pair = get_or taps p.transformer no_taps in
     ap (λ (u : Bool). record m {
@@ -54,40 +57,45 @@ moved_once taps closed opened ss m (state.Regulator p s) e h w =
         taps = set taps p.transformer (set_tap s.is_second (moved_tap u (tap_of s.is_second pair) (steps_of s.verdict * s.tap_step)) pair);
         closed = closed;
       };
+      now = now;
       opened = opened;
       moves = set (map moved_in ss) e.control (Some u);
     }) up
     ∙ ap (λ (ms : List (Option Bool)). record m {
       at = record { taps = set taps p.transformer (moved_pair s pair); closed = closed };
+      now = now;
       opened = opened;
       moves = ms;
-    }) (sym (map-set moved_in ss e.control (acted_state e.time (state.Regulator p s))))
-moved_once taps closed opened ss m (state.Bank p s) e h w =
+    }) (sym (map-set moved_in ss e.control (acted_state (rule.acts_at now e) (state.Regulator p s))))
+moved_once rule now taps closed opened ss m (state.Bank p s) e h w =
     let up : e.up ≡ is_raise s.verdict = sym (raise_way s.verdict e.up w) in
     ap (λ (u : Bool). record m {
       at = record { taps = taps; closed = set closed p.bank u };
-      opened = cond u opened (set opened p.bank (Some e.time));
+      now = now;
+      opened = cond u opened (set opened p.bank (Some (rule.acts_at now e)));
       moves = set (map moved_in ss) e.control (Some u);
     }) up
     ∙ ap (λ (os : List (Option ℕ)). record m {
       at = record { taps = taps; closed = set closed p.bank (is_raise s.verdict) };
+      now = now;
       opened = os;
       moves = set (map moved_in ss) e.control (Some (is_raise s.verdict));
-    }) (opened_by (is_raise s.verdict) e.time p.bank s.opened opened h.1.1.1.1)
+    }) (opened_by (is_raise s.verdict) (rule.acts_at now e) p.bank s.opened opened h.1.1.1.1)
     ∙ ap (λ (ms : List (Option Bool)). record m {
       at = record { taps = taps; closed = set closed p.bank (is_raise s.verdict) };
-      opened = set opened p.bank (opened_at e.time (is_raise s.verdict) s.opened);
+      now = now;
+      opened = set opened p.bank (opened_at (rule.acts_at now e) (is_raise s.verdict) s.opened);
       moves = ms;
-    }) (sym (map-set moved_in ss e.control (acted_state e.time (state.Bank p s))))
+    }) (sym (map-set moved_in ss e.control (acted_state (rule.acts_at now e) (state.Bank p s))))
 
-acted_once : (taps : List TapPair) (closed : List Bool) (opened : List (Option ℕ)) (ss : List ControlState) (m : Machine) (s : ControlState) (e : Entry) →
+acted_once : (rule : Rule) (now : ℕ) (taps : List TapPair) (closed : List Bool) (opened : List (Option ℕ)) (ss : List ControlState) (m : Machine) (s : ControlState) (e : Entry) →
     IsStateOf opened e.control s → way_of (verdict_in s) ≡ Some e.up → HasPlace taps closed opened s →
-    acted settle_rule (control_in s) (verdict_in s) (acting taps closed opened ss m) e ≡ act_of s e taps
-acted_once taps closed opened ss m (state.Regulator p s) e h w l =
+    acted rule (control_in s) (verdict_in s) (acting now taps closed opened ss m) e ≡ act_of s (rule.acts_at now e) e taps
+acted_once rule now taps closed opened ss m (state.Regulator p s) e h w l =
     let up : e.up ≡ is_raise s.verdict = sym (raise_way s.verdict e.up w) in
     let pair = get_or taps p.transformer no_taps in
     ap (λ (u : Bool). record {
-      time = e.time;
+      time = rule.acts_at now e;
       control = e.control;
       steps = signed_steps u (steps_of s.verdict);
       after = tap_of s.is_second (get_or (set taps p.transformer
@@ -95,27 +103,27 @@ acted_once taps closed opened ss m (state.Regulator p s) e h w l =
           p.transformer no_taps);
     }) up
     ∙ ap (λ (t : TapPair). record {
-      time = e.time;
+      time = rule.acts_at now e;
       control = e.control;
       steps = signed_steps (is_raise s.verdict) (steps_of s.verdict);
       after = tap_of s.is_second t;
     }) (get_or-set_same taps p.transformer (moved_pair s pair) no_taps l)
     ∙ ap (λ (b : Bool). record {
-      time = e.time;
+      time = rule.acts_at now e;
       control = e.control;
       steps = signed_steps (is_raise s.verdict) (steps_of s.verdict);
       after = tap_of b (moved_pair s pair);
     }) h.1.0
-acted_once taps closed opened ss m (state.Bank p s) e h w l =
+acted_once rule now taps closed opened ss m (state.Bank p s) e h w l =
     let up : e.up ≡ is_raise s.verdict = sym (raise_way s.verdict e.up w) in
     ap (λ (u : Bool). record {
-      time = e.time;
+      time = rule.acts_at now e;
       control = e.control;
       steps = signed_steps u (steps_of s.verdict);
       after = cond (get_or (set closed p.bank u) p.bank false) 1 0;
     }) up
     ∙ ap (λ (b : Bool). record {
-      time = e.time;
+      time = rule.acts_at now e;
       control = e.control;
       steps = signed_steps (is_raise s.verdict) (steps_of s.verdict);
       after = cond b 1 0;
@@ -262,15 +270,15 @@ early_by : (time : ℕ) (up : Bool) (o : Option ℕ) → IsEarly o → (up ≡ f
 early_by time true o h l = h
 early_by time false o h l = l refl
 
-pub acted_early : (s : ControlState) (e : Entry) (opened : List (Option ℕ)) → IsStateOf opened e.control s
+pub acted_early : (time : ℕ) (s : ControlState) (e : Entry) (opened : List (Option ℕ)) → IsStateOf opened e.control s
     → way_of (verdict_in s) ≡ Some e.up →
-    OpensEarly e → All IsEarly opened → All IsEarly (acted_opened e.time s opened)
-acted_early (state.Regulator p s) e opened h w o early = early
-acted_early (state.Bank p s) e opened h w o early =
+    (e.up ≡ false → time < 2 ^ 62) → All IsEarly opened → All IsEarly (acted_opened time s opened)
+acted_early time (state.Regulator p s) e opened h w o early = early
+acted_early time (state.Bank p s) e opened h w o early =
     let up : e.up ≡ is_raise s.verdict = sym (raise_way s.verdict e.up w) in
     let was : IsEarly s.opened = subst IsEarly (sym h.1.1.1.1) (all_or IsEarly opened p.bank None early tt) in
-    All-set IsEarly opened p.bank (opened_at e.time (is_raise s.verdict) s.opened)
-    (early_by e.time (is_raise s.verdict) s.opened was (λ f. o (up ∙ f))) early
+    All-set IsEarly opened p.bank (opened_at time (is_raise s.verdict) s.opened)
+    (early_by time (is_raise s.verdict) s.opened was (λ f. o (up ∙ f))) early
 
 pub standing_place : (taps : List TapPair) (closed : List Bool) (opened : List (Option ℕ)) (ss : List ControlState) (k : ℕ) (d : ControlState) →
     AreStanding taps closed opened ss → k < length ss → HasPlace taps closed opened (get_or ss k d)
@@ -279,24 +287,30 @@ standing_place taps closed opened ss k d h l =
     place_of taps closed opened (get_or ss k d) h.each
     (subst (HasDevice (record { taps = taps; closed = closed })) (get_or-map probe_in ss k d (probe_in d) l) (h.devices k (probe_in d) (omega (arith, n))))
 
+-- an entry that opens a bank acts early
+pub acts_early : (timing : Timing) (now : ℕ) (e : Entry) → now < 2 ^ 62 → OpensEarly e
+    → e.up ≡ false → (rule_of timing).acts_at now e < 2 ^ 62
+acts_early timing.Static now e soon opens h = opens h
+acts_early timing.Clock now e soon opens h = soon
+
 -- the controls stand as before
-pub acted_standing : (taps : List TapPair) (closed : List Bool) (opened : List (Option ℕ)) (ss : List ControlState) (e : Entry) (d : ControlState) →
-    AreStanding taps closed opened ss → e.control < length ss → CanAct taps (get_or ss e.control d) e → OpensEarly e →
+pub acted_standing : (time : ℕ) (taps : List TapPair) (closed : List Bool) (opened : List (Option ℕ)) (ss : List ControlState) (e : Entry) (d : ControlState) →
+    AreStanding taps closed opened ss → e.control < length ss → CanAct taps (get_or ss e.control d) e → (e.up ≡ false → time < 2 ^ 62) →
     AreStanding (acted_taps (get_or ss e.control d) taps) (acted_closed (get_or ss e.control d) closed)
-    (acted_opened e.time (get_or ss e.control d) opened) (set ss e.control (acted_state e.time (get_or ss e.control d)))
-acted_standing taps closed opened ss e d h l can o =
+    (acted_opened time (get_or ss e.control d) opened) (set ss e.control (acted_state time (get_or ss e.control d)))
+acted_standing time taps closed opened ss e d h l can o =
     let s = get_or ss e.control d in
     let place = standing_place taps closed opened ss e.control d h l in
-    let probes = same_probes e.time e.control ss d in
+    let probes = same_probes time e.control ss d in
     record {
-      states = acted_states opened taps closed ss e.time e.control d h.states h.apart l place;
+      states = acted_states opened taps closed ss time e.control d h.states h.apart l place;
       devices = λ k p m. has_device taps (acted_taps s taps) closed (acted_closed s closed) _ (same_taps s taps) (same_closed s closed)
           (subst (λ (ps : List Probe). All (HasDevice (record { taps = taps; closed = closed })) ps) (sym probes) h.devices k p m);
       ranges = subst (λ (ps : List Probe). All HasRange ps) (sym probes) h.ranges;
       apart = subst (λ (ps : List Probe). InPairs AreApart ps) (sym probes) h.apart;
       within = acted_within s taps closed opened h.within place can.fits;
-      each = same_opened e.time s opened ∙ h.each ∙ sym (same_closed s closed);
-      early = acted_early s e opened (h.states e.control d l) can.way o h.early;
+      each = same_opened time s opened ∙ h.each ∙ sym (same_closed s closed);
+      early = acted_early time s e opened (h.states e.control d l) can.way o h.early;
     }
 
 -- ---- the entries after it
@@ -331,15 +345,15 @@ other_fits taps closed opened i j (state.Regulator p s) (state.Regulator q x) h 
     (f.0, subst (λ t. MovesWithin t x.tap_step x.verdict) (sym same) f.1)
 
 -- another control can act as before
-other_can : (taps : List TapPair) (closed : List Bool) (opened : List (Option ℕ)) (ss : List ControlState) (e x : Entry) (d : ControlState) →
+other_can : (time : ℕ) (taps : List TapPair) (closed : List Bool) (opened : List (Option ℕ)) (ss : List ControlState) (e x : Entry) (d : ControlState) →
     AreStanding taps closed opened ss → e.control < length ss → x.control < length ss → e.control ≢ x.control →
     ((c : ControlState) → CanAct taps (get_or ss x.control c) x) →
-    (c : ControlState) → CanAct (acted_taps (get_or ss e.control d) taps) (get_or (set ss e.control (acted_state e.time (get_or ss e.control d))) x.control c) x
-other_can taps closed opened ss e x d h l m n can c =
+    (c : ControlState) → CanAct (acted_taps (get_or ss e.control d) taps) (get_or (set ss e.control (acted_state time (get_or ss e.control d))) x.control c) x
+other_can time taps closed opened ss e x d h l m n can c =
     let s = get_or ss e.control d in
     let y = get_or ss x.control c in
-    let here : get_or (set ss e.control (acted_state e.time s)) x.control c ≡ y =
-    get_or-set_other ss e.control x.control (acted_state e.time s) c (λ q. n (sym q)) in
+    let here : get_or (set ss e.control (acted_state time s)) x.control c ≡ y =
+    get_or-set_other ss e.control x.control (acted_state time s) c (λ q. n (sym q)) in
     let place = standing_place taps closed opened ss e.control d h l in
     let was = can c in
     subst (λ z. CanAct (acted_taps s taps) z x) (sym here) (record {
@@ -349,15 +363,15 @@ other_can taps closed opened ss e x d h l m n can c =
           (two_apart ss e.control x.control d c h.apart n l m) was.fits;
     })
 
-pub others_can : (taps : List TapPair) (closed : List Bool) (opened : List (Option ℕ)) (ss : List ControlState)
+pub others_can : (time : ℕ) (taps : List TapPair) (closed : List Bool) (opened : List (Option ℕ)) (ss : List ControlState)
     (e : Entry) (es : List Entry) (d : ControlState)
     → AreStanding taps closed opened ss → e.control < length ss → AllByRecursion (λ x. x.control < length ss) es
     → AllByRecursion (λ x. e.control ≢ x.control) es → AllCanAct taps ss es
     → AllCanAct (acted_taps (get_or ss e.control d) taps)
-    (set ss e.control (acted_state e.time (get_or ss e.control d))) es
-others_can taps closed opened ss e [] d h l m n can = tt
-others_can taps closed opened ss e (x ∷ es) d h l m n can =
-    (other_can taps closed opened ss e x d h l m.0 n.0 can.0, others_can taps closed opened ss e es d h l m.1 n.1 can.1)
+    (set ss e.control (acted_state time (get_or ss e.control d))) es
+others_can time taps closed opened ss e [] d h l m n can = tt
+others_can time taps closed opened ss e (x ∷ es) d h l m n can =
+    (other_can time taps closed opened ss e x d h l m.0 n.0 can.0, others_can time taps closed opened ss e es d h l m.1 n.1 can.1)
 
 -- ---- one entry more of the machine
 
@@ -395,12 +409,12 @@ names_verdict ss₀ ss k d verdicts l = ap (λ (vs : List Decision). get_or vs k
 
 -- ---- the loop over the entries
 
-pub record IsActing (due : List Entry) (k : ℕ) (taps₀ taps : List TapPair) (closed₀ closed : List Bool) (opened₀ opened : List (Option ℕ))
+pub record IsActing (timing : Timing) (now : ℕ) (due : List Entry) (k : ℕ) (taps₀ taps : List TapPair) (closed₀ closed : List Bool) (opened₀ opened : List (Option ℕ))
     (ss₀ ss : List ControlState) (made : List Act) : Type 0 where
   pub machine : (limit : ℕ) (m : Machine) →
-      fold (moved (setup_of_states limit ss₀) (map verdict_in ss₀)) (acting taps₀ closed₀ opened₀ ss₀ m) (take k due) ≡ acting taps closed opened ss m
+      fold (moved (setup_of_states timing limit ss₀) (map verdict_in ss₀)) (acting now taps₀ closed₀ opened₀ ss₀ m) (take k due) ≡ acting now taps closed opened ss m
   pub acts : (limit : ℕ) (m : Machine) →
-      acts_of (setup_of_states limit ss₀) (map verdict_in ss₀) (acting taps₀ closed₀ opened₀ ss₀ m) (take k due) ≡ made
+      acts_of (setup_of_states timing limit ss₀) (map verdict_in ss₀) (acting now taps₀ closed₀ opened₀ ss₀ m) (take k due) ≡ made
   pub standing : AreStanding taps closed opened ss
   pub can_act : AllCanAct taps ss (drop k due)
   pub probes : map probe_in ss ≡ map probe_in ss₀
@@ -410,9 +424,9 @@ pub record IsActing (due : List Entry) (k : ℕ) (taps₀ taps : List TapPair) (
   pub each_state : length ss ≡ length ss₀
   pub count : length made ≡ k
 
-pub none_acted : (due : List Entry) (taps : List TapPair) (closed : List Bool) (opened : List (Option ℕ)) (ss : List ControlState) →
-    AreStanding taps closed opened ss → AllCanAct taps ss due → IsActing due 0 taps taps closed closed opened opened ss ss []
-none_acted due taps closed opened ss h can = record {
+pub none_acted : (timing : Timing) (now : ℕ) (due : List Entry) (taps : List TapPair) (closed : List Bool) (opened : List (Option ℕ)) (ss : List ControlState) →
+    AreStanding taps closed opened ss → AllCanAct taps ss due → IsActing timing now due 0 taps taps closed closed opened opened ss ss []
+none_acted timing now due taps closed opened ss h can = record {
   machine = λ limit m. refl;
   acts = λ limit m. refl;
   standing = h;
@@ -439,87 +453,90 @@ pub can_now : (due : List Entry) (taps : List TapPair) (ss : List ControlState) 
     AllCanAct taps ss (get_or due k d ∷ drop (k + 1) due)
 can_now due taps ss k d h l = subst (AllCanAct taps ss) (drop_more due k d l) h
 
-next_by : (due : List Entry) (k : ℕ) (taps₀ taps taps' : List TapPair) (closed₀ closed closed' : List Bool) (opened₀ opened opened' : List (Option ℕ))
+next_by : (timing : Timing) (now time : ℕ) (due : List Entry) (k : ℕ) (taps₀ taps taps' : List TapPair) (closed₀ closed closed' : List Bool) (opened₀ opened opened' : List (Option ℕ))
     (ss₀ ss : List ControlState) (made : List Act) (e : Entry) (s new : ControlState) (a : Act) →
-    taps' ≡ acted_taps s taps → closed' ≡ acted_closed s closed → opened' ≡ acted_opened e.time s opened → new ≡ acted_state e.time s → a ≡ act_of s e taps →
-    IsActing due (k + 1) taps₀ (acted_taps s taps) closed₀ (acted_closed s closed) opened₀ (acted_opened e.time s opened) ss₀
-    (set ss e.control (acted_state e.time s)) (made ++ act_of s e taps ∷ []) →
-    IsActing due (k + 1) taps₀ taps' closed₀ closed' opened₀ opened' ss₀ (set ss e.control new) (made ++ a ∷ [])
-next_by due k taps₀ taps taps' closed₀ closed closed' opened₀ opened opened' ss₀ ss made e s new a is_taps is_closed
+    taps' ≡ acted_taps s taps → closed' ≡ acted_closed s closed → opened' ≡ acted_opened time s opened → new ≡ acted_state time s → a ≡ act_of s time e taps →
+    IsActing timing now due (k + 1) taps₀ (acted_taps s taps) closed₀ (acted_closed s closed) opened₀ (acted_opened time s opened) ss₀
+    (set ss e.control (acted_state time s)) (made ++ act_of s time e taps ∷ []) →
+    IsActing timing now due (k + 1) taps₀ taps' closed₀ closed' opened₀ opened' ss₀ (set ss e.control new) (made ++ a ∷ [])
+next_by timing now time due k taps₀ taps taps' closed₀ closed closed' opened₀ opened opened' ss₀ ss made e s new a is_taps is_closed
     is_opened is_new is_act h =
     subst (λ x.
-    IsActing due (k + 1) taps₀ taps' closed₀ closed' opened₀ opened' ss₀ (set ss e.control new) (made ++ x ∷ []))
+    IsActing timing now due (k + 1) taps₀ taps' closed₀ closed' opened₀ opened' ss₀ (set ss e.control new) (made ++ x ∷ []))
     (sym is_act) (subst (λ x.
-    IsActing due (k + 1) taps₀ taps' closed₀ closed' opened₀ opened' ss₀ (set ss e.control x)
-    (made ++ act_of s e taps ∷ [])) (sym is_new) (subst (λ x.
-    IsActing due (k + 1) taps₀ taps' closed₀ closed' opened₀ x ss₀ (set ss e.control (acted_state e.time s))
-    (made ++ act_of s e taps ∷ [])) (sym is_opened) (subst (λ x.
-    IsActing due (k + 1) taps₀ taps' closed₀ x opened₀ (acted_opened e.time s opened) ss₀
-    (set ss e.control (acted_state e.time s)) (made ++ act_of s e taps ∷ [])) (sym is_closed) (subst (λ x.
-    IsActing due (k + 1) taps₀ x closed₀ (acted_closed s closed) opened₀ (acted_opened e.time s opened) ss₀
-    (set ss e.control (acted_state e.time s)) (made ++ act_of s e taps ∷ [])) (sym is_taps) h))))
+    IsActing timing now due (k + 1) taps₀ taps' closed₀ closed' opened₀ opened' ss₀ (set ss e.control x)
+    (made ++ act_of s time e taps ∷ [])) (sym is_new) (subst (λ x.
+    IsActing timing now due (k + 1) taps₀ taps' closed₀ closed' opened₀ x ss₀ (set ss e.control (acted_state time s))
+    (made ++ act_of s time e taps ∷ [])) (sym is_opened) (subst (λ x.
+    IsActing timing now due (k + 1) taps₀ taps' closed₀ x opened₀ (acted_opened time s opened) ss₀
+    (set ss e.control (acted_state time s)) (made ++ act_of s time e taps ∷ [])) (sym is_closed) (subst (λ x.
+    IsActing timing now due (k + 1) taps₀ x closed₀ (acted_closed s closed) opened₀ (acted_opened time s opened) ss₀
+    (set ss e.control (acted_state time s)) (made ++ act_of s time e taps ∷ [])) (sym is_taps) h))))
 
-pub next_acted : (due : List Entry) (k : ℕ) (taps₀ taps taps' : List TapPair) (closed₀ closed closed' : List Bool) (opened₀ opened opened' : List (Option ℕ))
+pub next_acted : (timing : Timing) (now time : ℕ) (due : List Entry) (k : ℕ) (taps₀ taps taps' : List TapPair) (closed₀ closed closed' : List Bool) (opened₀ opened opened' : List (Option ℕ))
     (ss₀ ss : List ControlState) (made : List Act) (d : Entry) (c new : ControlState) (a : Act) →
-    IsActing due k taps₀ taps closed₀ closed opened₀ opened ss₀ ss made → k < length due → HaveOneEach due →
-    AllByRecursion (λ e. e.control < length ss₀) due → AllByRecursion OpensEarly due →
+    IsActing timing now due k taps₀ taps closed₀ closed opened₀ opened ss₀ ss made → k < length due → HaveOneEach due →
+    AllByRecursion (λ e. e.control < length ss₀) due → AllByRecursion OpensEarly due → now < 2 ^ 62 → time ≡ (rule_of timing).acts_at now (get_or due k d) →
     taps' ≡ acted_taps (get_or ss (get_or due k d).control c) taps → closed' ≡ acted_closed (get_or ss (get_or due k d).control c) closed →
-    opened' ≡ acted_opened (get_or due k d).time (get_or ss (get_or due k d).control c) opened →
-    new ≡ acted_state (get_or due k d).time (get_or ss (get_or due k d).control c) → a ≡ act_of (get_or ss (get_or due k d).control c) (get_or due k d) taps →
-    IsActing due (k + 1) taps₀ taps' closed₀ closed' opened₀ opened' ss₀ (set ss (get_or due k d).control new) (made ++ a ∷ [])
-next_acted due k taps₀ taps taps' closed₀ closed closed' opened₀ opened opened' ss₀ ss made d c new a h l one_each
-    numbers early is_taps is_closed is_opened is_new is_act =
+    opened' ≡ acted_opened time (get_or ss (get_or due k d).control c) opened →
+    new ≡ acted_state time (get_or ss (get_or due k d).control c) → a ≡ act_of (get_or ss (get_or due k d).control c) time (get_or due k d) taps →
+    IsActing timing now due (k + 1) taps₀ taps' closed₀ closed' opened₀ opened' ss₀ (set ss (get_or due k d).control new) (made ++ a ∷ [])
+next_acted timing now time due k taps₀ taps taps' closed₀ closed closed' opened₀ opened opened' ss₀ ss made d c new a h l one_each
+    numbers early soon is_time is_taps is_closed is_opened is_new is_act =
     let e = get_or due k d in
     let s = get_or ss e.control c in
     let fits : e.control < length ss = omega (arith, each_at (λ x. x.control < length ss₀) due k d numbers l, h.each_state) in
     let state : IsStateOf opened e.control s = h.standing.states e.control c fits in
     let can = can_now due taps ss k d h.can_act l in
     let own : CanAct taps s e = can.0 c in
-    let opens : OpensEarly e = each_at OpensEarly due k d early l in
+    let at = (rule_of timing).acts_at now e in
+    let opens = acts_early timing now e soon (each_at OpensEarly due k d early l) in
     let place = standing_place taps closed opened ss e.control c h.standing fits in
     let later : AllByRecursion (λ x. x.control < length ss) (drop (k + 1) due) =
     each_weaker (λ x. x.control < length ss₀) (λ x. x.control < length ss) (λ x less. omega (arith, less, h.each_state)) (drop (k + 1) due)
     (each_drop (λ x. x.control < length ss₀) due (k + 1) numbers) in
     let control = names_control ss₀ ss opened e.control c h.probes fits state in
     let verdict = names_verdict ss₀ ss e.control c h.verdicts fits in
-    let now = acting taps closed opened ss in
+    let here = acting now taps closed opened ss in
     let n = length-set ss e.control new in
-    next_by due k taps₀ taps taps' closed₀ closed closed' opened₀ opened opened' ss₀ ss made e s new a is_taps is_closed is_opened is_new is_act (record {
+    next_by timing now at due k taps₀ taps taps' closed₀ closed closed' opened₀ opened opened' ss₀ ss made e s new a is_taps is_closed
+    (is_opened ∙ ap (λ (t : ℕ). acted_opened t s opened) is_time) (is_new ∙ ap (λ (t : ℕ). acted_state t s) is_time)
+    (is_act ∙ ap (λ (t : ℕ). act_of s t e taps) is_time) (record {
       machine = λ limit m.
-          fold_more (moved (setup_of_states limit ss₀) (map verdict_in ss₀)) (acting taps₀ closed₀ opened₀ ss₀ m) due k d l
-          ∙ ap (λ x. moved (setup_of_states limit ss₀) (map verdict_in ss₀) x e) (h.machine limit m)
-          ∙ ap (λ x. moved_by settle_rule x (get_or (map verdict_in ss₀) e.control Hold) (now m) e) control
-          ∙ ap (λ x. moved_by settle_rule (control_in s) x (now m) e) verdict
-          ∙ moved_once taps closed opened ss m s e state own.way;
+          fold_more (moved (setup_of_states timing limit ss₀) (map verdict_in ss₀)) (acting now taps₀ closed₀ opened₀ ss₀ m) due k d l
+          ∙ ap (λ x. moved (setup_of_states timing limit ss₀) (map verdict_in ss₀) x e) (h.machine limit m)
+          ∙ ap (λ x. moved_by (rule_of timing) x (get_or (map verdict_in ss₀) e.control Hold) (here m) e) control
+          ∙ ap (λ x. moved_by (rule_of timing) (control_in s) x (here m) e) verdict
+          ∙ moved_once (rule_of timing) now taps closed opened ss m s e state own.way;
       acts = λ limit m.
-          acts_more (setup_of_states limit ss₀) (map verdict_in ss₀) (acting taps₀ closed₀ opened₀ ss₀ m) due k d l
-          ∙ ap (λ xs. xs ++ acted settle_rule (get_or (controls_of ss₀) e.control no_control)
-          (get_or (map verdict_in ss₀) e.control Hold) (fold (moved (setup_of_states limit ss₀) (map verdict_in ss₀))
-          (acting taps₀ closed₀ opened₀ ss₀ m) (take k due)) e ∷ []) (h.acts limit m)
-          ∙ ap (λ x. made ++ acted settle_rule (get_or (controls_of ss₀) e.control no_control)
+          acts_more (setup_of_states timing limit ss₀) (map verdict_in ss₀) (acting now taps₀ closed₀ opened₀ ss₀ m) due k d l
+          ∙ ap (λ xs. xs ++ acted (rule_of timing) (get_or (controls_of ss₀) e.control no_control)
+          (get_or (map verdict_in ss₀) e.control Hold) (fold (moved (setup_of_states timing limit ss₀) (map verdict_in ss₀))
+          (acting now taps₀ closed₀ opened₀ ss₀ m) (take k due)) e ∷ []) (h.acts limit m)
+          ∙ ap (λ x. made ++ acted (rule_of timing) (get_or (controls_of ss₀) e.control no_control)
           (get_or (map verdict_in ss₀) e.control Hold) x e ∷ []) (h.machine limit m)
-          ∙ ap (λ x. made ++ acted settle_rule x (get_or (map verdict_in ss₀) e.control Hold) (now m) e ∷ []) control
-          ∙ ap (λ x. made ++ acted settle_rule (control_in s) x (now m) e ∷ []) verdict
-          ∙ ap (λ x. made ++ x ∷ []) (acted_once taps closed opened ss m s e state own.way place);
-      standing = acted_standing taps closed opened ss e c h.standing fits own opens;
-      can_act = others_can taps closed opened ss e (drop (k + 1) due) c h.standing fits later (pairs_drop due k d one_each l) can.1;
-      probes = same_probes e.time e.control ss c ∙ h.probes;
-      verdicts = same_verdicts e.time e.control ss c ∙ h.verdicts;
+          ∙ ap (λ x. made ++ acted (rule_of timing) x (get_or (map verdict_in ss₀) e.control Hold) (here m) e ∷ []) control
+          ∙ ap (λ x. made ++ acted (rule_of timing) (control_in s) x (here m) e ∷ []) verdict
+          ∙ ap (λ x. made ++ x ∷ []) (acted_once (rule_of timing) now taps closed opened ss m s e state own.way place);
+      standing = acted_standing at taps closed opened ss e c h.standing fits own opens;
+      can_act = others_can at taps closed opened ss e (drop (k + 1) due) c h.standing fits later (pairs_drop due k d one_each l) can.1;
+      probes = same_probes at e.control ss c ∙ h.probes;
+      verdicts = same_verdicts at e.control ss c ∙ h.verdicts;
       each_tap = same_taps s taps ∙ h.each_tap;
       each_closed = same_closed s closed ∙ h.each_closed;
-      each_state = length-set ss e.control (acted_state e.time s) ∙ h.each_state;
-      count = length_push made (act_of s e taps) ∙ ap (λ i. i + 1) h.count;
+      each_state = length-set ss e.control (acted_state at s) ∙ h.each_state;
+      count = length_push made (act_of s at e taps) ∙ ap (λ i. i + 1) h.count;
     })
 
 -- all of them
-pub all_acted_machine : (due : List Entry) (k limit : ℕ) (taps₀ taps : List TapPair) (closed₀ closed : List Bool) (opened₀ opened : List (Option ℕ))
-    (ss₀ ss : List ControlState) (made : List Act) (m : Machine) → IsActing due k taps₀ taps closed₀ closed opened₀ opened ss₀ ss made → length due ≤ k →
-    fold (moved (setup_of_states limit ss₀) (map verdict_in ss₀)) (acting taps₀ closed₀ opened₀ ss₀ m) due ≡ acting taps closed opened ss m
-all_acted_machine due k limit taps₀ taps closed₀ closed opened₀ opened ss₀ ss made m h l =
-    ap (fold (moved (setup_of_states limit ss₀) (map verdict_in ss₀)) (acting taps₀ closed₀ opened₀ ss₀ m)) (sym (take_all k due l)) ∙ h.machine limit m
+pub all_acted_machine : (timing : Timing) (now : ℕ) (due : List Entry) (k limit : ℕ) (taps₀ taps : List TapPair) (closed₀ closed : List Bool) (opened₀ opened : List (Option ℕ))
+    (ss₀ ss : List ControlState) (made : List Act) (m : Machine) → IsActing timing now due k taps₀ taps closed₀ closed opened₀ opened ss₀ ss made → length due ≤ k →
+    fold (moved (setup_of_states timing limit ss₀) (map verdict_in ss₀)) (acting now taps₀ closed₀ opened₀ ss₀ m) due ≡ acting now taps closed opened ss m
+all_acted_machine timing now due k limit taps₀ taps closed₀ closed opened₀ opened ss₀ ss made m h l =
+    ap (fold (moved (setup_of_states timing limit ss₀) (map verdict_in ss₀)) (acting now taps₀ closed₀ opened₀ ss₀ m)) (sym (take_all k due l)) ∙ h.machine limit m
 
-pub all_acted_acts : (due : List Entry) (k limit : ℕ) (taps₀ taps : List TapPair) (closed₀ closed : List Bool) (opened₀ opened : List (Option ℕ))
-    (ss₀ ss : List ControlState) (made : List Act) (m : Machine) → IsActing due k taps₀ taps closed₀ closed opened₀ opened ss₀ ss made → length due ≤ k →
-    acts_of (setup_of_states limit ss₀) (map verdict_in ss₀) (acting taps₀ closed₀ opened₀ ss₀ m) due ≡ made
-all_acted_acts due k limit taps₀ taps closed₀ closed opened₀ opened ss₀ ss made m h l =
-    ap (acts_of (setup_of_states limit ss₀) (map verdict_in ss₀) (acting taps₀ closed₀ opened₀ ss₀ m)) (sym (take_all k due l)) ∙ h.acts limit m
+pub all_acted_acts : (timing : Timing) (now : ℕ) (due : List Entry) (k limit : ℕ) (taps₀ taps : List TapPair) (closed₀ closed : List Bool) (opened₀ opened : List (Option ℕ))
+    (ss₀ ss : List ControlState) (made : List Act) (m : Machine) → IsActing timing now due k taps₀ taps closed₀ closed opened₀ opened ss₀ ss made → length due ≤ k →
+    acts_of (setup_of_states timing limit ss₀) (map verdict_in ss₀) (acting now taps₀ closed₀ opened₀ ss₀ m) due ≡ made
+all_acted_acts timing now due k limit taps₀ taps closed₀ closed opened₀ opened ss₀ ss made m h l =
+    ap (acts_of (setup_of_states timing limit ss₀) (map verdict_in ss₀) (acting now taps₀ closed₀ opened₀ ss₀ m)) (sym (take_all k due l)) ∙ h.acts limit m

@@ -10,7 +10,7 @@ use Rattle.fd_settle.proofs.Computations.{one_computation}
 use Rattle.fd_settle.proofs.Going.{round_counts}
 pub use Rattle.fd_settle.proofs.Computations.{computed}
 pub use Rattle.fd_settle.proofs.Histories.{history, whole}
-pub use Rattle.fd_settle.proofs.KeptRounds.{none_early}
+pub use Rattle.fd_settle.proofs.KeptRounds.{hour_can_start, none_early, solve_can_start}
 pub use Rattle.fd_sample.proofs.CallerLemmas.dss_ready as dss_ready
 pub use Rattle.fd_inject.proofs.CallerLemmas.fd_equations as fd_equations
 pub use Rattle.fd_inject.proofs.CallerLemmas.fd_inverse as fd_inverse

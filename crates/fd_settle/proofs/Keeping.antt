@@ -11,7 +11,7 @@ use Rattle.fd_sample.specs.fd_xfmr.Leakage.{AreTaps}
 use Rattle.fd_cert.specs.fd_enclosure.Sound.{Claim}
 use Rattle.fd_sample.specs.fd_queue.Controls.{Control, Positions, no_taps, pair_at, moved_tap, set_tap, tap_of}
 use Rattle.fd_sample.specs.fd_queue.Decisions.{Decision, Hold, steps_of, way_of}
-use Rattle.fd_sample.specs.fd_queue.Machine.{Act, Acts, AtLimit, Machine, Quiet, Setup, Step, acts_of, all_acted, moved, moved_by, no_control, sampled, settle_rule, step_of}
+use Rattle.fd_sample.specs.fd_queue.Machine.{Act, Acts, AtLimit, Machine, Quiet, Rule, Setup, Step, acts_of, all_acted, moved, moved_by, no_control, rule_of, sampled, step_of}
 use Rattle.fd_sample.specs.fd_queue.MachineLaws.{KeepsQueue, Leaves, OwnLaw, QueueLaw}
 use Rattle.fd_sample.specs.fd_queue.Queue.{HaveOneEach, InPairs, later, nearest}
 use Rattle.fd_sample.specs.fd_queue.declared.entry.Entry.{Entry}
@@ -25,7 +25,7 @@ use Rattle.fd_sample.specs.Regulators.{settings_of}
 use Rattle.fd_sample.proofs.CallerLemmas.{probes_kept}
 use Rattle.fd_settle.specs.Acting.{MovesWithin}
 use Rattle.fd_settle.specs.Kept.{IsMachineOf, KeptLaw}
-use Rattle.fd_settle.specs.Plant.{controls_in, setup_of, taking_part}
+use Rattle.fd_settle.specs.Plant.{controls_in, setup_of, taking_part, timing_of}
 use Rattle.fd_settle.specs.Rounds.{left_by}
 use Rattle.fd_settle.specs.Sampling.{Decided, Sampling, Unclear, look_over, sampling_of}
 use Rattle.fd_settle.specs.Settle.{outcome_after, outcome_of}
@@ -49,9 +49,9 @@ CanMove (probe.Regulator p) d up at =
     × MovesWithin (tap_of p.is_second (pair_at at p.transformer)) p.tap_step d
 CanMove (probe.Bank p) d up at = Unit {0}
 
-moved_keeps : (p : Probe) (d : Decision) (m : Machine) (e : Entry) → CanMove p d e.up m.at → All AreTaps m.at.taps
-    → Keeps m (moved_by settle_rule (control_of p) d m e)
-moved_keeps (probe.Regulator p) d m e can taps =
+moved_keeps : (rule : Rule) (p : Probe) (d : Decision) (m : Machine) (e : Entry) → CanMove p d e.up m.at → All AreTaps m.at.taps
+    → Keeps m (moved_by rule (control_of p) d m e)
+moved_keeps rule (probe.Regulator p) d m e can taps =
     let pair = pair_at m.at p.transformer in
     let after = λ (u : Bool). set_tap p.is_second (moved_tap u (tap_of p.is_second pair) (steps_of d * p.tap_step)) pair in
     let within = moved_within p.is_second pair d p.tap_step (taps p.transformer no_taps can.1) can.2 in
@@ -60,12 +60,12 @@ moved_keeps (probe.Regulator p) d m e can taps =
       closed = refl;
       within = All-set AreTaps m.at.taps p.transformer (after e.up) (subst (λ u. AreTaps (after u)) (raise_way d e.up can.0) within) taps;
     }
-moved_keeps (probe.Bank p) d m e can taps = record { taps = refl; closed = length-set m.at.closed p.bank e.up; within = taps }
+moved_keeps rule (probe.Bank p) d m e can taps = record { taps = refl; closed = length-set m.at.closed p.bank e.up; within = taps }
 
 -- a control of another device can move as before
-other_moves : (p q : Probe) → AreApart p q → (d c : Decision) (m : Machine) (e : Entry) (up : Bool)
-    → CanMove p d e.up m.at → CanMove q c up m.at → CanMove q c up (moved_by settle_rule (control_of p) d m e).at
-other_moves (probe.Regulator p) (probe.Regulator q) apart d c m e up can own =
+other_moves : (rule : Rule) (p q : Probe) → AreApart p q → (d c : Decision) (m : Machine) (e : Entry) (up : Bool)
+    → CanMove p d e.up m.at → CanMove q c up m.at → CanMove q c up (moved_by rule (control_of p) d m e).at
+other_moves rule (probe.Regulator p) (probe.Regulator q) apart d c m e up can own =
     let tap = moved_tap e.up (tap_of p.is_second (pair_at m.at p.transformer)) (steps_of d * p.tap_step) in
     let same = tap_by m.at.taps p.transformer q.transformer p.is_second q.is_second tap can.1
     (cases_eq p.transformer q.transformer) apart in (
@@ -73,9 +73,9 @@ other_moves (probe.Regulator p) (probe.Regulator q) apart d c m e up can own =
       omega (arith, own.1, length-set m.at.taps p.transformer (set_tap p.is_second tap (pair_at m.at p.transformer))),
       subst (λ t. MovesWithin t q.tap_step c) (sym same) own.2,
     )
-other_moves (probe.Regulator p) (probe.Bank q) apart d c m e up can own = tt
-other_moves (probe.Bank p) (probe.Regulator q) apart d c m e up can own = own
-other_moves (probe.Bank p) (probe.Bank q) apart d c m e up can own = tt
+other_moves rule (probe.Regulator p) (probe.Bank q) apart d c m e up can own = tt
+other_moves rule (probe.Bank p) (probe.Regulator q) apart d c m e up can own = own
+other_moves rule (probe.Bank p) (probe.Bank q) apart d c m e up can own = tt
 
 -- ---- entries one after another
 
@@ -83,9 +83,9 @@ pub some_probe : (ps : List Probe) (k : ℕ) → k < length ps → Probe
 some_probe [] k l = absurd (omega (arith, l))
 some_probe (p ∷ ps) k l = p
 
-module _ (ps : List Probe) (apart : InPairs AreApart ps) (vs : List Decision) (limit : ℕ) where
+module _ (rule : Rule) (ps : List Probe) (apart : InPairs AreApart ps) (vs : List Decision) (limit : ℕ) where
   abbrev setup : Setup
-  setup = record { rule = settle_rule; controls = map control_of ps; limit = limit }
+  setup = record { rule = rule; controls = map control_of ps; limit = limit }
 
   -- the control of an entry can move
   abbrev EntryMoves : Positions → Entry → Type 0
@@ -94,9 +94,9 @@ module _ (ps : List Probe) (apart : InPairs AreApart ps) (vs : List Decision) (l
       × ((q : Probe) → CanMove (get_or ps e.control q) (get_or vs e.control Hold) e.up at)
 
   moved_is : (m : Machine) (e : Entry) (q : Probe) → e.control < length ps
-      → moved_by settle_rule (control_of (get_or ps e.control q)) (get_or vs e.control Hold) m e ≡ moved setup vs m e
+      → moved_by rule (control_of (get_or ps e.control q)) (get_or vs e.control Hold) m e ≡ moved setup vs m e
   moved_is m e q l =
-      ap (λ c. moved_by settle_rule c (get_or vs e.control Hold) m e) (sym (get_or-map control_of ps e.control q no_control l))
+      ap (λ c. moved_by rule c (get_or vs e.control Hold) m e) (sym (get_or-map control_of ps e.control q no_control l))
 
   others_move : (m : Machine) (e : Entry) (es : List Entry) → EntryMoves m.at e
       → AllByRecursion (λ x. e.control ≢ x.control) es → AllByRecursion (EntryMoves m.at) es
@@ -106,7 +106,7 @@ module _ (ps : List Probe) (apart : InPairs AreApart ps) (vs : List Decision) (l
     (
       can.0.0,
       λ q. subst (λ (n : Machine). CanMove (get_or ps x.control q) (get_or vs x.control Hold) x.up n.at) (moved_is m e q own.0)
-          (other_moves (get_or ps e.control q) (get_or ps x.control q)
+          (other_moves rule (get_or ps e.control q) (get_or ps x.control q)
           (apart_at AreApart apart_flip ps e.control x.control q q apart differs.0 own.0 can.0.0)
           (get_or vs e.control Hold) (get_or vs x.control Hold) m e x.up (own.1 q) (can.0.1 q)),
     ),
@@ -119,7 +119,7 @@ module _ (ps : List Probe) (apart : InPairs AreApart ps) (vs : List Decision) (l
   all_keep (e ∷ es) m can one taps =
       let q = some_probe ps e.control can.0.0 in
       let first : Keeps m (moved setup vs m e) =
-      subst (Keeps m) (moved_is m e q can.0.0) (moved_keeps (get_or ps e.control q) (get_or vs e.control Hold) m e (can.0.1 q) taps) in
+      subst (Keeps m) (moved_is m e q can.0.0) (moved_keeps rule (get_or ps e.control q) (get_or vs e.control Hold) m e (can.0.1 q) taps) in
       let rest = all_keep es (moved setup vs m e) (others_move m e es can.0 one.0 can.1) one.1 first.within in
       record { taps = rest.taps ∙ first.taps; closed = rest.closed ∙ first.closed; within = rest.within }
 
@@ -167,11 +167,11 @@ leaves_by P true true m after acts h k = h
 leaves_by P true false m after acts h k = k
 leaves_by P false u m after acts h k = h
 
-module _ (queue_law : QueueLaw) (own_law : OwnLaw) (tap_law : TapLaw) (ps : List Probe) (ranges : All HasRange ps)
+module _ (queue_law : QueueLaw) (own_law : OwnLaw) (tap_law : TapLaw) (rule : Rule) (ps : List Probe) (ranges : All HasRange ps)
     (apart : InPairs AreApart ps) (limit : ℕ) (m : Machine) (devices : All (HasDevice m.at) ps)
     (taps : All AreTaps m.at.taps) (y : Claim) where
   abbrev s : Setup
-  s = setup ps apart [] limit
+  s = setup rule ps apart [] limit
 
   abbrev f : Probe → Result Decision Undecided
   f p = sample_over p m.at y.centre y.radii
@@ -185,7 +185,7 @@ module _ (queue_law : QueueLaw) (own_law : OwnLaw) (tap_law : TapLaw) (ps : List
     each = (decided_each 0 (map f ps) vs look).each ∙ length-map ps f ∙ sym (length-map ps control_of)
 
     entry_can : (e : Entry) → (e.control < length s.controls) × (way_of (get_or vs e.control Hold) ≡ Some e.up)
-        → EntryMoves ps apart vs limit n.at e
+        → EntryMoves rule ps apart vs limit n.at e
     entry_can e h =
         let l : e.control < length ps = omega (arith, h.0, length-map ps control_of) in (
           l,
@@ -199,11 +199,11 @@ module _ (queue_law : QueueLaw) (own_law : OwnLaw) (tap_law : TapLaw) (ps : List
         let after = sampled_keeps queue_law s.controls vs m queue in
         let own = own_law s vs m queue each in
         let can = each_weaker (λ e. (e.control < length s.controls) × (way_of (get_or vs e.control Hold) ≡ Some e.up))
-        (EntryMoves ps apart vs limit n.at) entry_can n.queue
+        (EntryMoves rule ps apart vs limit n.at) entry_can n.queue
         (each_both (λ e. e.control < length s.controls) (λ e. way_of (get_or vs e.control Hold) ≡ Some e.up) n.queue after.controls own) in
         let at : n.at ≡ m.at = sampled_at 0 s.controls vs m in
-        let kept = all_keep ps apart vs limit (nearest n.queue) (record n { queue = later n.queue })
-        (each_filter (EntryMoves ps apart vs limit n.at) _ n.queue can) (pairs_filter _ _ n.queue after.queue.one_each)
+        let kept = all_keep rule ps apart vs limit (nearest n.queue) (record n { queue = later n.queue })
+        (each_filter (EntryMoves rule ps apart vs limit n.at) _ n.queue can) (pairs_filter _ _ n.queue after.queue.one_each)
         (subst (λ (p : Positions). All AreTaps p.taps) (sym at) taps) in
         record {
           taps = kept.taps ∙ ap (λ (p : Positions). length p.taps) at;
@@ -227,10 +227,12 @@ module _ (queue_law : QueueLaw) (own_law : OwnLaw) (tap_law : TapLaw) (ps : List
 pub all_taken : (P : Probe → Type 0) (mode : ControlMode) (ps : List Probe) → All P ps → All P (taking_part mode ps)
 all_taken P control_mode.Off ps h = All-nil P
 all_taken P control_mode.Static ps h = h
+all_taken P control_mode.Time ps h = h
 
 pairs_taken : (mode : ControlMode) (ps : List Probe) → InPairs AreApart ps → InPairs AreApart (taking_part mode ps)
 pairs_taken control_mode.Off ps h = tt
 pairs_taken control_mode.Static ps h = h
+pairs_taken control_mode.Time ps h = h
 
 pub machine_kept : QueueLaw → OwnLaw → TapLaw → KeptLaw
 machine_kept queue_law own_law tap_law c powers m y ready range keys h = by (look_over (controls_in c) m.at y) refl
@@ -242,7 +244,7 @@ machine_kept queue_law own_law tap_law c powers m y ready range keys h = by (loo
         let mode = c.options.controlmode in
         let all = probes_of c.elements in
         let keeps = left_of_step (Keeps m) (step_of (setup_of c) vs m)
-        (step_keeps queue_law own_law tap_law (controls_in c) (all_taken HasRange mode all kept.ranges)
+        (step_keeps queue_law own_law tap_law (rule_of (timing_of mode)) (controls_in c) (all_taken HasRange mode all kept.ranges)
         (pairs_taken mode all kept.apart) c.options.maxcontroliter m
         (all_taken (HasDevice m.at) mode all (kept.devices m.at h.positions.counts.taps h.positions.counts.closed))
         h.positions.taps y h.queue vs is) in

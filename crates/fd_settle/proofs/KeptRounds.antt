@@ -19,10 +19,12 @@ use Rattle.fd_cert.specs.fd_enclosure.Sound.{Claim}
 use Rattle.fd_inject.specs.declared.limits.Limits.{Limits}
 use Rattle.fd_sample.specs.fd_queue.Controls.{Control, Positions, Regulates, Switches, is_closed, pair_at, tap_of}
 use Rattle.fd_sample.specs.fd_queue.Decisions.{Decision, Hold, steps_of, way_of}
-use Rattle.fd_sample.specs.fd_queue.Machine.{Act, Acts, AtLimit, Machine, Quiet, acts_of, after_opening, all_acted, moved, moved_by, new_entry, no_control, reacted, sampled, settle_rule, signed_steps, step_of}
+use Rattle.fd_sample.specs.fd_queue.Machine.{Act, Acts, AtLimit, Machine, Quiet, acts_of, after_opening, all_acted, hour_begun, moved, moved_by, new_entry, no_control, reacted, rule_of, sampled, signed_steps, step_of}
 use Rattle.fd_sample.specs.fd_queue.MachineLaws.{KeepsQueue, OwnLaw, QueueLaw}
 use Rattle.fd_sample.specs.fd_queue.Queue.{later, least_time, nearest}
 use Rattle.fd_sample.specs.fd_queue.declared.entry.Entry.{Entry}
+use Rattle.fd_sample.specs.fd_queue.declared.timing.Timing.{Timing}
+use Rattle.fd_sample.specs.fd_queue.declared.timing.Timing.TheVariants as timing
 use Rattle.fd_sample.specs.fd_regctl.RegulatorLaws.{TapLaw}
 use Rattle.fd_sample.specs.Banks.{bank_of}
 use Rattle.fd_sample.specs.Circuits.{HasTimes, probes_of}
@@ -35,15 +37,16 @@ use Rattle.fd_sample.proofs.CallerLemmas.{probes_kept}
 use Rattle.fd_settle.specs.Computed.{Ending, Follows, IsComputedFrom, ended, stopped}
 use Rattle.fd_settle.specs.Controls.{OpensEarly}
 use Rattle.fd_settle.specs.Kept.{IsMachineOf, KeptLaw}
-use Rattle.fd_settle.specs.KeptRounds.{KeptRoundsLaw}
+use Rattle.fd_settle.specs.KeptRounds.{CanStart, IsTimely, KeptRoundsLaw}
 use Rattle.fd_settle.specs.Numbers.{AreActNumbers}
-use Rattle.fd_settle.specs.Plant.{controls_in, plant_of, setup_of, started, taking_part}
+use Rattle.fd_settle.specs.Plant.{controls_in, plant_of, setup_of, started, taking_part, timing_of}
 use Rattle.fd_settle.specs.Rounds.{AtEach, left_by}
 use Rattle.fd_settle.specs.Sampling.{Decided, Sampling, Unclear, look_over}
 use Rattle.fd_settle.specs.Settle.{Ends, Moves, Outcome, outcome_after, outcome_of}
 use Rattle.fd_settle.specs.Start.{ArePositions}
 use Rattle.fd_settle.proofs.Fitting.{Wants, decided_each, few_steps, stays_within}
 use Rattle.fd_settle.proofs.Going as going
+use Rattle.fd_settle.proofs.Acts.{acts_early}
 use Rattle.fd_settle.proofs.Keeping.{all_taken, some_probe, wants_each}
 use Rattle.fd_settle.proofs.Lists.{all_or, each_both, each_filter, each_weaker}
 use Rattle.fd_settle.proofs.Reactions.{reacted_alone, reacted_each, sampled_alone, sampled_keeps, time_by}
@@ -53,10 +56,6 @@ pub none_early : (n : ℕ) → All IsEarly (replicate n None)
 none_early n = All-replicate IsEarly n None tt
 
 -- ---- the entries of a queue
-
--- an entry's time is far below 2^64, and one that opens a bank acts early
-abbrev IsTimely : Entry → Type 0
-IsTimely e = (e.time < 2 ^ 63) × OpensEarly e
 
 after_early : (time dead : ℕ) (o : Option ℕ) → time < 2 ^ 61 → dead < 2 ^ 60 → IsEarly o → after_opening time dead o < 2 ^ 63
 after_early time dead None h d o = omega (arith, h)
@@ -100,21 +99,23 @@ record Stays (m n : Machine) : Type 0 where
   each : length n.opened ≡ length m.opened
   early : All IsEarly n.opened
 
-moved_stays : (c : Control) (v : Decision) (m : Machine) (e : Entry) → OpensEarly e → All IsEarly m.opened
-    → Stays m (moved_by settle_rule c v m e)
-moved_stays (Regulates r) v m e soon h = record { now = refl; queue = refl; each = refl; early = h }
-moved_stays (Switches b) v m e soon h =
-    let after = opened_by e.up e.time b.bank m.opened soon h in
+moved_stays : (timing : Timing) (c : Control) (v : Decision) (m : Machine) (e : Entry)
+    → (e.up ≡ false → (rule_of timing).acts_at m.now e < 2 ^ 62) → All IsEarly m.opened
+    → Stays m (moved_by (rule_of timing) c v m e)
+moved_stays timing (Regulates r) v m e soon h = record { now = refl; queue = refl; each = refl; early = h }
+moved_stays timing (Switches b) v m e soon h =
+    let after = opened_by e.up ((rule_of timing).acts_at m.now e) b.bank m.opened soon h in
     record { now = refl; queue = refl; each = after.0; early = after.1 }
 
-module _ (cs : List Control) (limit : ℕ) (vs : List Decision) where
-  all_stay : (es : List Entry) (m : Machine) → AllByRecursion OpensEarly es → All IsEarly m.opened
-      → Stays m (fold (moved (record { rule = settle_rule; controls = cs; limit = limit }) vs) m es)
-  all_stay [] m soon h = record { now = refl; queue = refl; each = refl; early = h }
-  all_stay (e ∷ es) m soon h =
-      let n = moved (record { rule = settle_rule; controls = cs; limit = limit }) vs m e in
-      let first = moved_stays (get_or cs e.control no_control) (get_or vs e.control Hold) m e soon.0 h in
-      let rest = all_stay es n soon.1 first.early in
+module _ (timing : Timing) (cs : List Control) (limit : ℕ) (vs : List Decision) where
+  all_stay : (es : List Entry) (m : Machine) → m.now < 2 ^ 62 → AllByRecursion OpensEarly es → All IsEarly m.opened
+      → Stays m (fold (moved (record { rule = rule_of timing; controls = cs; limit = limit }) vs) m es)
+  all_stay [] m now soon h = record { now = refl; queue = refl; each = refl; early = h }
+  all_stay (e ∷ es) m now soon h =
+      let n = moved (record { rule = rule_of timing; controls = cs; limit = limit }) vs m e in
+      let first = moved_stays timing (get_or cs e.control no_control) (get_or vs e.control Hold) m e
+      (acts_early timing m.now e now soon.0) h in
+      let rest = all_stay es n (omega (arith, first.now, now)) soon.1 first.early in
       record {
         now = rest.now ∙ first.now;
         queue = rest.queue ∙ first.queue;
@@ -136,13 +137,25 @@ signed_few : (up : Bool) (n : ℕ) → n ≤ 1000 → unsigned_abs (signed_steps
 signed_few true n h = omega (arith, ints, h)
 signed_few false n h = omega (arith, ints, h)
 
-act_numbers : (cs : List Control) (limit : ℕ) (vs : List Decision) (m : Machine) (es : List Entry)
-    → AllByRecursion (IsModestEntry vs) es
-    → AllByRecursion HasNumbers (acts_of (record { rule = settle_rule; controls = cs; limit = limit }) vs m es)
-act_numbers cs limit vs m [] h = tt
-act_numbers cs limit vs m (e ∷ es) h = (
-  record { time = h.0.time; control = h.0.control; steps = signed_few e.up (steps_of (get_or vs e.control Hold)) h.0.steps },
-  act_numbers cs limit vs (moved (record { rule = settle_rule; controls = cs; limit = limit }) vs m e) es h.1,
+-- an act doesn't change the time of the machine
+same_now : (timing : Timing) (c : Control) (v : Decision) (m : Machine) (e : Entry)
+    → (moved_by (rule_of timing) c v m e).now ≡ m.now
+same_now timing (Regulates r) v m e = refl
+same_now timing (Switches b) v m e = refl
+
+modest_time : (timing : Timing) (now : ℕ) (e : Entry) → now < 2 ^ 64 → e.time < 2 ^ 64
+    → (rule_of timing).acts_at now e < 2 ^ 64
+modest_time timing.Static now e h k = k
+modest_time timing.Clock now e h k = h
+
+act_numbers : (timing : Timing) (cs : List Control) (limit : ℕ) (vs : List Decision) (m : Machine) (es : List Entry)
+    → m.now < 2 ^ 64 → AllByRecursion (IsModestEntry vs) es
+    → AllByRecursion HasNumbers (acts_of (record { rule = rule_of timing; controls = cs; limit = limit }) vs m es)
+act_numbers timing cs limit vs m [] now h = tt
+act_numbers timing cs limit vs m (e ∷ es) now h = (
+  record { time = modest_time timing m.now e now h.0.time; control = h.0.control; steps = signed_few e.up (steps_of (get_or vs e.control Hold)) h.0.steps },
+  act_numbers timing cs limit vs (moved (record { rule = rule_of timing; controls = cs; limit = limit }) vs m e) es
+      (subst (λ (t : ℕ). t < 2 ^ 64) (sym (same_now timing (get_or cs e.control no_control) (get_or vs e.control Hold) m e)) now) h.1,
 )
 
 -- a control that wants to move moves few steps
@@ -175,6 +188,9 @@ module _ (queue_law : QueueLaw) (own_law : OwnLaw) (tap_law : TapLaw) (away_law 
 
   abbrev cs : List Control
   cs = map control_of ps
+
+  abbrev timing' : Timing
+  timing' = timing_of c.options.controlmode
 
   -- the nearest entries of a queue act, after a sampling by which each goes the way of its control's decision
   module _ (vs : List Decision) (m : Machine) (y : Claim) (h : IsRunning c m) (look : look_over ps m.at y ≡ Decided vs)
@@ -210,7 +226,7 @@ module _ (queue_law : QueueLaw) (own_law : OwnLaw) (tap_law : TapLaw) (away_law 
     acted =
         let waits : Machine = record m { queue = later m.queue } in
         let soon = each_filter OpensEarly is_near m.queue (each_weaker IsTimely OpensEarly (λ e t. t.1) m.queue h.timely) in
-        let stays = all_stay cs c.options.maxcontroliter vs due waits soon h.early in
+        let stays = all_stay timing' cs c.options.maxcontroliter vs due waits (omega (arith, h.now)) soon h.early in
         record {
           now = omega (arith, stays.now, h.now);
           each = stays.each ∙ h.each;
@@ -245,9 +261,9 @@ module _ (queue_law : QueueLaw) (own_law : OwnLaw) (tap_law : TapLaw) (away_law 
       } in
       let controls = (sampled_keeps queue_law cs vs m queue).controls in
       let own = own_law (setup_of c) vs m queue many in
-      by_step (list_any (λ e. true) n.queue) (nat_le c.options.maxcontroliter n.made) n (all_acted (setup_of c) vs n)
+      by_step (list_any ((rule_of timing').is_due n.now) n.queue) (nat_le c.options.maxcontroliter n.made) n (all_acted (setup_of c) vs n)
       (acts_of (setup_of c) vs n (nearest n.queue)) runs (acted vs n y runs there controls own)
-      (act_numbers cs c.options.maxcontroliter vs n (nearest n.queue) (modest vs n y runs there controls own))
+      (act_numbers timing' cs c.options.maxcontroliter vs n (nearest n.queue) (omega (arith, runs.now)) (modest vs n y runs there controls own))
 
   round_runs : (m : Machine) (y : Claim) → IsRunning c m → KeepsQueue (length cs) m
       → IsRound c (outcome_of (setup_of c) m (look_over ps m.at y))
@@ -309,9 +325,10 @@ module _ (queue_law : QueueLaw) (own_law : OwnLaw) (tap_law : TapLaw) (away_law 
 taken_few : (mode : ControlMode) (ps : List Probe) (n : ℕ) → length ps ≤ n → length (taking_part mode ps) ≤ n
 taken_few control_mode.Off ps n h = omega arith
 taken_few control_mode.Static ps n h = h
+taken_few control_mode.Time ps n h = h
 
 pub rounds_are_kept : QueueLaw → OwnLaw → TapLaw → AwayLaw → KeptLaw → KeptRoundsLaw
-rounds_are_kept queue_law own_law tap_law away_law kept_law c powers at time opened limits rounds ending n ready circuit start computed =
+rounds_are_kept queue_law own_law tap_law away_law kept_law c powers m limits rounds ending n ready circuit start computed =
     let fit = probes_kept c ready circuit.elements_in_range circuit.well_formed.entries in
     let mode = c.options.controlmode in
     let all = probes_of c.elements in
@@ -321,12 +338,9 @@ rounds_are_kept queue_law own_law tap_law away_law kept_law c powers at time ope
     (all_taken (IsProbe (size_of (layout_of c.elements))) mode all fit.places) (all_taken HasTimes mode all fit.times)
     (omega (arith, few, most)) powers
     (λ m y h. kept_law c powers m y ready circuit.elements_in_range circuit.well_formed.entries h) limits
-    (started c at time opened) rounds ending n
-    (record { now = start.now; each = start.each; early = start.early; timely = tt })
-    (record {
-      positions = start.positions;
-      queue = record { queue = record { sorted = tt; one_each = tt; numbers = tt }; controls = tt };
-    }) computed in
+    m rounds ending n
+    (record { now = start.now; each = start.each; early = start.early; timely = start.timely })
+    (record { positions = start.positions; queue = start.queue }) computed in
     record {
       positions = kept.positions;
       acts = kept.acts;
@@ -335,5 +349,42 @@ rounds_are_kept queue_law own_law tap_law away_law kept_law c powers at time ope
         now = kept.runs.now;
         each = kept.runs.each;
         early = kept.runs.early;
+        queue = kept.machine.queue;
+        timely = kept.runs.timely;
       };
     }
+
+-- ---- an hour begins
+
+-- with what a Solve of a circuit starts at these positions
+pub solve_can_start : (c : CircuitView) (powers : List LoadPower) (at : Positions) (time : ℕ) (opened : List (Option ℕ))
+    → ArePositions c powers at → time < 2 ^ 60 → length opened ≡ list_n (λ e. bank_count e.1) c.elements → All IsEarly opened
+    → CanStart c powers (started c at time opened)
+solve_can_start c powers at time opened positions now each early = record {
+  positions = positions;
+  now = now;
+  each = each;
+  early = early;
+  queue = record { queue = record { sorted = tt; one_each = tt; numbers = tt }; controls = tt };
+  timely = tt;
+}
+
+-- what a settle can start from, the next hour of the Solve can too
+pub hour_can_start : (timing : Timing) (c : CircuitView) (powers others : List LoadPower) (m : Machine) (time : ℕ)
+    → CanStart c powers m → ArePositions c others m.at → time < 2 ^ 60 → CanStart c others (hour_begun timing time m)
+hour_can_start timing.Static c powers others m time h positions now = record {
+  positions = positions;
+  now = now;
+  each = h.each;
+  early = h.early;
+  queue = record { queue = record { sorted = tt; one_each = tt; numbers = tt }; controls = tt };
+  timely = tt;
+}
+hour_can_start timing.Clock c powers others m time h positions now = record {
+  positions = positions;
+  now = now;
+  each = h.each;
+  early = h.early;
+  queue = h.queue;
+  timely = h.timely;
+}

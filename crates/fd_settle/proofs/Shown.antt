@@ -8,6 +8,7 @@ use Rattle.fd_sample.specs.fd_queue.Machine.{Act, Machine, all_acted, sampled}
 use Rattle.fd_sample.specs.fd_queue.Queue.{HaveOneEach, IsQueue, QueueView, later, least_time, nearest}
 use Rattle.fd_sample.specs.fd_queue.Verdicts.{decision}
 use Rattle.fd_sample.specs.fd_queue.declared.entry.Entry.{Entry}
+use Rattle.fd_sample.specs.fd_queue.declared.timing.Timing.{Timing}
 use Rattle.fd_sample.specs.fd_queue.declared.verdict.Verdict.{Verdict}
 use Rattle.fd_settle.specs.declared.clock.Clock.{Clock}
 use Rattle.fd_settle.specs.declared.state.ControlState.{ControlState}
@@ -64,27 +65,27 @@ reacted_shows at made clock ss ss₂ new vs vs₂ q q' e f is h =
 
 -- ---- acting
 
-pub act_from : (due due₂ : List Entry) (ss ss₂ : List ControlState) (taps taps₂ : List TapPair) (closed closed₂ : List Bool) (opened opened₂ : List (Option ℕ))
+pub act_from : (timing : Timing) (now : ℕ) (due due₂ : List Entry) (ss ss₂ : List ControlState) (taps taps₂ : List TapPair) (closed closed₂ : List Bool) (opened opened₂ : List (Option ℕ))
     (new new₂ : List ControlState) (taps' taps₃ : List TapPair) (closed' closed₃ : List Bool) (opened' opened₃ : List (Option ℕ)) (made : List Act) →
     due₂ ≡ due → ss₂ ≡ ss → taps₂ ≡ taps → closed₂ ≡ closed → opened₂ ≡ opened → new₂ ≡ new → taps₃ ≡ taps' → closed₃ ≡ closed' → opened₃ ≡ opened' →
-    ActsLeadTo due₂ ss₂ taps₂ closed₂ opened₂ new₂ taps₃ closed₃ opened₃ made → ActsLeadTo due ss taps closed opened new taps' closed' opened' made
-act_from due due₂ ss ss₂ taps taps₂ closed closed₂ opened opened₂ new new₂ taps' taps₃ closed' closed₃ opened' opened₃ made e₁ e₂ e₃ e₄ e₅ e₆ e₇ e₈ e₉ h =
-    subst (λ x. ActsLeadTo x ss taps closed opened new taps' closed' opened' made) e₁
-    (subst (λ x. ActsLeadTo due₂ x taps closed opened new taps' closed' opened' made) e₂
-    (subst (λ x. ActsLeadTo due₂ ss₂ x closed opened new taps' closed' opened' made) e₃
-    (subst (λ x. ActsLeadTo due₂ ss₂ taps₂ x opened new taps' closed' opened' made) e₄
-    (subst (λ x. ActsLeadTo due₂ ss₂ taps₂ closed₂ x new taps' closed' opened' made) e₅
-    (subst (λ x. ActsLeadTo due₂ ss₂ taps₂ closed₂ opened₂ x taps' closed' opened' made) e₆
-    (subst (λ x. ActsLeadTo due₂ ss₂ taps₂ closed₂ opened₂ new₂ x closed' opened' made) e₇
-    (subst (λ x. ActsLeadTo due₂ ss₂ taps₂ closed₂ opened₂ new₂ taps₃ x opened' made) e₈
-    (subst (λ x. ActsLeadTo due₂ ss₂ taps₂ closed₂ opened₂ new₂ taps₃ closed₃ x made) e₉ h))))))))
+    ActsLeadTo timing now due₂ ss₂ taps₂ closed₂ opened₂ new₂ taps₃ closed₃ opened₃ made → ActsLeadTo timing now due ss taps closed opened new taps' closed' opened' made
+act_from timing now due due₂ ss ss₂ taps taps₂ closed closed₂ opened opened₂ new new₂ taps' taps₃ closed' closed₃ opened' opened₃ made e₁ e₂ e₃ e₄ e₅ e₆ e₇ e₈ e₉ h =
+    subst (λ x. ActsLeadTo timing now x ss taps closed opened new taps' closed' opened' made) e₁
+    (subst (λ x. ActsLeadTo timing now due₂ x taps closed opened new taps' closed' opened' made) e₂
+    (subst (λ x. ActsLeadTo timing now due₂ ss₂ x closed opened new taps' closed' opened' made) e₃
+    (subst (λ x. ActsLeadTo timing now due₂ ss₂ taps₂ x opened new taps' closed' opened' made) e₄
+    (subst (λ x. ActsLeadTo timing now due₂ ss₂ taps₂ closed₂ x new taps' closed' opened' made) e₅
+    (subst (λ x. ActsLeadTo timing now due₂ ss₂ taps₂ closed₂ opened₂ x taps' closed' opened' made) e₆
+    (subst (λ x. ActsLeadTo timing now due₂ ss₂ taps₂ closed₂ opened₂ new₂ x closed' opened' made) e₇
+    (subst (λ x. ActsLeadTo timing now due₂ ss₂ taps₂ closed₂ opened₂ new₂ taps₃ x opened' made) e₈
+    (subst (λ x. ActsLeadTo timing now due₂ ss₂ taps₂ closed₂ opened₂ new₂ taps₃ closed₃ x made) e₉ h))))))))
 
 -- the machine after the entries of the least time have acted
-pub all_acted_shows : (limit : ℕ) (at at' : Positions) (made : ℕ) (clock clock' : Clock) (ss new : List ControlState) (q q' : QueueView) (acts : List Act) →
-    ActsLeadTo (nearest q.entries) ss at.taps at.closed clock.opened.items new at'.taps at'.closed clock'.opened.items acts →
+pub all_acted_shows : (timing : Timing) (limit : ℕ) (at at' : Positions) (made : ℕ) (clock clock' : Clock) (ss new : List ControlState) (q q' : QueueView) (acts : List Act) →
+    ActsLeadTo timing clock.now (nearest q.entries) ss at.taps at.closed clock.opened.items new at'.taps at'.closed clock'.opened.items acts →
     q'.entries ≡ later q.entries → q'.next ≡ q.next → clock'.now ≡ clock.now →
-    all_acted (setup_of_states limit ss) (map verdict_in ss) (waiting at made clock ss q) ≡ waiting at' (made + 1) clock' new q'
-all_acted_shows limit at at' made clock clock' ss new q q' acts h entries next now =
+    all_acted (setup_of_states timing limit ss) (map verdict_in ss) (waiting at made clock ss q) ≡ waiting at' (made + 1) clock' new q'
+all_acted_shows timing limit at at' made clock clock' ss new q q' acts h entries next now =
     let m = waiting at made clock ss q in
     ap (λ (x : Machine). record x { made = made + 1 }) (h.machine limit (record m { queue = later q.entries }))
     ∙ ap (λ (es : List Entry). record {

@@ -2,16 +2,16 @@
 use Rattle.std.proofs.Common.{◌≡◌, ◌≢◌, ℕ, ◌+◌, ◌*◌, ◌<◌, ◌≤◌, Bool, true, false, cond, not, List, map, length, get_or, Option, Some, refl, sym, ap, subst, ◌∙◌, arith}
 use Rattle.std.specs.Prelude.{All, Result, ℤ, ◌==◌, nat_le, vec_capacity}
 use Rattle.std.specs.List.{AllByRecursion, list_any}
-use Rattle.std.specs.Option.{is_some}
 use Rattle.std.proofs.lemmas.Bool.{le-leb, lt-leb}
 use Rattle.std.proofs.lemmas.List.{get_or-map, length-map}
 use Rattle.fd_sample.specs.fd_queue.Controls.{Positions}
 use Rattle.fd_sample.specs.fd_queue.Decisions.{Decision, Hold, way_of}
-use Rattle.fd_sample.specs.fd_queue.Machine.{Act, Machine, Setup, AtLimit, Acts, Quiet, Step, acts_of, all_acted, due_step, sampled, settle_rule, step_of}
-use Rattle.fd_sample.specs.fd_queue.MachineLaws.{IsQueueOf, KeepsQueue, OwnLaw, QueueLaw, RoomLaw, SampledLaw, entry_way}
+use Rattle.fd_sample.specs.fd_queue.Machine.{Act, Machine, Setup, AtLimit, Acts, Quiet, Step, acts_of, all_acted, due_step, rule_of, sampled, step_of}
+use Rattle.fd_sample.specs.fd_queue.MachineLaws.{IsQueueOf, KeepsQueue, OwnLaw, QueueLaw, RoomLaw}
 use Rattle.fd_sample.specs.fd_queue.Queue.{InPairs, later, least_time, nearest}
 use Rattle.fd_sample.specs.fd_queue.Verdicts.{decision}
 use Rattle.fd_sample.specs.fd_queue.declared.entry.Entry.{Entry}
+use Rattle.fd_sample.specs.fd_queue.declared.timing.Timing.{Timing}
 use Rattle.fd_sample.specs.fd_queue.declared.verdict.Verdict.{Verdict}
 use Rattle.fd_sample.specs.fd_regctl.RegulatorLaws.{TapLaw}
 use Rattle.fd_sample.specs.fd_capctl.BankLaws.{AwayLaw}
@@ -27,7 +27,7 @@ use Rattle.fd_settle.specs.Acting.{AllCanAct, CanActNow, HaveActed, HaveReacted,
 use Rattle.fd_settle.specs.Controls.{AreControls, AreStates, HasNumbers, IsStateOf, OpensEarly, machine_of, moved_in, probe_in, probes_in, setup_in}
 use Rattle.fd_settle.specs.Sampling.{Sampling, Decided}
 use Rattle.fd_settle.specs.Settle.{Ends, Limited, Moves, Outcome, Settled, outcome_after, outcome_of}
-use Rattle.fd_settle.proofs.Fitting.{Wants, any_map, decided_each, entries_can, judged_own, judged_verdicts, moves_waits, sample_wants, state_same}
+use Rattle.fd_settle.proofs.Fitting.{Wants, decided_each, entries_can, judged_own, judged_verdicts, sample_wants, state_same}
 use Rattle.fd_settle.proofs.Lists.{each_filter, pairs_filter}
 use Rattle.fd_settle.proofs.Reactions.{controls_length, judged_length, sampled_keeps}
 use Rattle.fd_settle.proofs.Shown.{judged_probes}
@@ -71,22 +71,21 @@ pub record IsAfterReactions (n : ℕ) (at : CodePositions) (clock : Clock) (c ne
   pub probes : probes_in new ≡ probes_in c
   pub each : length new.states.items ≡ length c.states.items
   pub controls : AreControls n at clock new
-  pub numbers : new.queue.next ≤ c.made * length c.states.items + length c.states.items
+  pub numbers : new.queue.next ≤ c.queue.next + length c.states.items
   pub can_act : AllCanAct at.taps new.states.items new.queue.entries
-  pub waits : list_any (λ v. is_some (way_of (decision v))) vs ≡ list_any (λ e. true) new.queue.entries
   pub made : new.made ≡ c.made
   pub limit : new.limit ≡ c.limit
+  pub timing : new.timing ≡ c.timing
 
-module _ (queue_law : QueueLaw) (own_law : OwnLaw) (sampled_law : SampledLaw) (tap_law : TapLaw)
-    (away_law : AwayLaw) where
+module _ (queue_law : QueueLaw) (own_law : OwnLaw) (tap_law : TapLaw) (away_law : AwayLaw) where
   pub after_reactions : (n : ℕ) (at : CodePositions) (clock : Clock) (c looked new : Controls) (centre : List ℤ)
       (radii : List ℕ)
-      → AreControls n at clock c → HasNumbers c → looked.states ≡ c.states → looked.queue ≡ c.queue
-      → looked.due ≡ c.due → looked.made ≡ c.made → looked.limit ≡ c.limit
+      → AreControls n at clock c → looked.states ≡ c.states → looked.queue ≡ c.queue
+      → looked.due ≡ c.due → looked.made ≡ c.made → looked.limit ≡ c.limit → looked.timing ≡ c.timing
       → length c.states.items ≤ vec_capacity looked.verdicts → length looked.verdicts.items ≡ length c.states.items
       → sampled_over c.states.items (positions_in at) centre radii ≡ Decided (map decision looked.verdicts.items)
       → HaveReacted clock looked new → IsAfterReactions n at clock c new looked.verdicts.items
-  after_reactions n at clock c looked new centre radii h numbers same_states same_queue same_due same_made same_limit verdict_room each look r =
+  after_reactions n at clock c looked new centre radii h same_states same_queue same_due same_made same_limit same_timing verdict_room each look r =
       let ss = c.states.items in
       let vs = map decision looked.verdicts.items in
       let m = machine_of at clock c in
@@ -109,8 +108,6 @@ module _ (queue_law : QueueLaw) (own_law : OwnLaw) (sampled_law : SampledLaw) (t
       let after : IsQueueOf (length ss) new.queue.next new.queue.entries =
       subst (λ k. IsQueueOf k new.queue.next new.queue.entries) cs
       (subst (λ x. KeepsQueue (length s.controls) x) machine (sampled_keeps queue_law s.controls vs m keeps)) in
-      let has : (k : ℕ) → k < length vs → entry_way k new.queue.entries ≡ way_of (get_or vs k Hold) = λ k l.
-      ap (entry_way k) (sym entries) ∙ sampled_law s vs m k keeps (count ∙ sym cs) l in
       record {
         machine = machine;
         verdicts = ap (map verdict_in) states ∙ judged_verdicts ss vs count;
@@ -136,18 +133,21 @@ module _ (queue_law : QueueLaw) (own_law : OwnLaw) (sampled_law : SampledLaw) (t
           limit = omega (arith, r.limit, same_limit, h.limit);
           made = omega (arith, r.limit, same_limit, r.made, same_made, h.made);
         };
-        numbers = omega (arith, r.numbers, numbers, ap (λ q. q.next) same_queue, ap length items);
+        numbers = omega (arith, r.numbers, ap (λ q. q.next) same_queue, ap length items);
         can_act = subst (λ xs. AllCanAct at.taps xs new.queue.entries) (sym states)
             (entries_can tap_law away_law n clock.opened.items (positions_in at) ss vs new.queue.entries h.states h.places h.ranges count
             (all_want ss (positions_in at) centre radii vs look) after.controls own);
-        waits = any_map decision (λ d. is_some (way_of d)) looked.verdicts.items ∙ moves_waits vs new.queue.entries own has;
         made = r.made ∙ same_made;
         limit = r.limit ∙ same_limit;
+        timing = r.timing ∙ same_timing;
       }
 
 -- ---- how it ends
 
--- P of none of the verdicts
+same_due : (c new : Controls) (now : ℕ) → new.timing ≡ c.timing
+    → list_any ((rule_of c.timing).is_due now) new.queue.entries ≡ list_any ((rule_of new.timing).is_due now) new.queue.entries
+same_due c new now h = ap (λ (t : Timing). list_any ((rule_of t).is_due now) new.queue.entries) (sym h)
+
 none_by : (t : Bool) (a : Outcome) (m : Machine) (b : Step) → t ≡ false
     → outcome_after (cond (not t) (Quiet m) b) ≡ Ends Settled m
 none_by true a m b h = absurd (cc)
@@ -155,13 +155,14 @@ none_by false a m b h = refl
 
 pub settles : (n : ℕ) (at : CodePositions) (clock : Clock) (c new : Controls) (vs : List Verdict) (look : Sampling)
     → IsAfterReactions n at clock c new vs →
-    look ≡ Decided (map decision vs) → list_any (λ v. is_some (way_of (decision v))) vs ≡ false →
+    look ≡ Decided (map decision vs) → list_any ((rule_of new.timing).is_due clock.now) new.queue.entries ≡ false →
     outcome_of (setup_in c) (machine_of at clock c) look ≡ Ends Settled (machine_of at clock new)
 unfolding step_of
 settles n at clock c new vs look h is none =
     ap (outcome_of (setup_in c) (machine_of at clock c)) is
     ∙ ap (λ m. outcome_after (due_step (setup_in c) (map decision vs) m)) h.machine
-    ∙ none_by (list_any (λ e. true) new.queue.entries) (Ends Settled (machine_of at clock new)) (machine_of at clock new) _ (sym h.waits ∙ none)
+    ∙ none_by (list_any ((rule_of c.timing).is_due clock.now) new.queue.entries) (Ends Settled (machine_of at clock new)) (machine_of at clock new) _
+    (same_due c new clock.now h.timing ∙ none)
 
 limit_by : (t u : Bool) (m : Machine) (b : Step) → t ≡ true → u ≡ true
     → outcome_after (cond (not t) (Quiet m) (cond u (AtLimit m) b)) ≡ Ends Limited m
@@ -171,13 +172,15 @@ limit_by false u m b h i = absurd (cc)
 
 pub limits : (n : ℕ) (at : CodePositions) (clock : Clock) (c new : Controls) (vs : List Verdict) (look : Sampling)
     → IsAfterReactions n at clock c new vs →
-    look ≡ Decided (map decision vs) → list_any (λ v. is_some (way_of (decision v))) vs ≡ true → new.made ≡ new.limit →
+    look ≡ Decided (map decision vs) → list_any ((rule_of new.timing).is_due clock.now) new.queue.entries ≡ true
+    → new.made ≡ new.limit →
     outcome_of (setup_in c) (machine_of at clock c) look ≡ Ends Limited (machine_of at clock new)
 unfolding step_of
 limits n at clock c new vs look h is some last =
     ap (outcome_of (setup_in c) (machine_of at clock c)) is
     ∙ ap (λ m. outcome_after (due_step (setup_in c) (map decision vs) m)) h.machine
-    ∙ limit_by (list_any (λ e. true) new.queue.entries) (nat_le c.limit new.made) (machine_of at clock new) _ (sym h.waits ∙ some)
+    ∙ limit_by (list_any ((rule_of c.timing).is_due clock.now) new.queue.entries) (nat_le c.limit new.made) (machine_of at clock new) _
+    (same_due c new clock.now h.timing ∙ some)
     (le-leb c.limit new.made (omega (arith, last, h.limit)))
 
 moves_by : (t u : Bool) (m after : Machine) (acts : List Act) → t ≡ true → u ≡ false →
@@ -187,7 +190,8 @@ moves_by true false m after acts h i = refl
 moves_by false u m after acts h i = absurd (cc)
 
 pub moves_on : (n : ℕ) (at at' : CodePositions) (clock clock' : Clock) (c new last : Controls) (vs : List Verdict) (look : Sampling) (acts : List Act) →
-    IsAfterReactions n at clock c new vs → look ≡ Decided (map decision vs) → list_any (λ v. is_some (way_of (decision v))) vs ≡ true → new.made ≢ new.limit →
+    IsAfterReactions n at clock c new vs → look ≡ Decided (map decision vs)
+    → list_any ((rule_of new.timing).is_due clock.now) new.queue.entries ≡ true → new.made ≢ new.limit →
     HaveActed at at' clock clock' new last acts →
     outcome_of (setup_in c) (machine_of at clock c) look ≡ Moves acts (machine_of at' clock' last)
 unfolding step_of
@@ -195,18 +199,19 @@ moves_on n at at' clock clock' c new last vs look acts h is some differs a =
     let s = setup_in c in
     let ds = map decision vs in
     let m = machine_of at clock new in
-    let controls : setup_of_states c.limit new.states.items ≡ s =
-    ap (λ ps. record { rule = settle_rule; controls = map control_of ps; limit = c.limit }) h.probes in
+    let controls : setup_of_states new.timing c.limit new.states.items ≡ s =
+    ap (λ (t : Timing). record { rule = rule_of t; controls = map control_of (probes_in new); limit = c.limit }) h.timing
+    ∙ ap (λ ps. record { rule = rule_of c.timing; controls = map control_of ps; limit = c.limit }) h.probes in
     let after : all_acted s ds m ≡ machine_of at' clock' last =
-    ap (λ x. all_acted x ds m) (sym controls) ∙ ap (λ x. all_acted (setup_of_states c.limit new.states.items) x m) (sym h.verdicts) ∙ a.machine c.limit in
+    ap (λ x. all_acted x ds m) (sym controls) ∙ ap (λ x. all_acted (setup_of_states new.timing c.limit new.states.items) x m) (sym h.verdicts) ∙ a.machine c.limit in
     let made : acts_of s ds m (nearest new.queue.entries) ≡ acts =
     ap (λ x. acts_of x ds m (nearest new.queue.entries)) (sym controls)
-    ∙ ap (λ x. acts_of (setup_of_states c.limit new.states.items) x m (nearest new.queue.entries)) (sym h.verdicts) ∙ a.made_acts c.limit in
+    ∙ ap (λ x. acts_of (setup_of_states new.timing c.limit new.states.items) x m (nearest new.queue.entries)) (sym h.verdicts) ∙ a.made_acts c.limit in
     let below : new.made < c.limit = omega (arith, h.controls.made, differs, h.limit) in
     ap (outcome_of s (machine_of at clock c)) is
     ∙ ap (λ x. outcome_after (due_step s ds x)) h.machine
-    ∙ moves_by (list_any (λ e. true) new.queue.entries) (nat_le c.limit new.made) m (all_acted s ds m) (acts_of s ds m (nearest new.queue.entries))
-    (sym h.waits ∙ some) (lt-leb c.limit new.made below)
+    ∙ moves_by (list_any ((rule_of c.timing).is_due clock.now) new.queue.entries) (nat_le c.limit new.made) m (all_acted s ds m) (acts_of s ds m (nearest new.queue.entries))
+    (same_due c new clock.now h.timing ∙ some) (lt-leb c.limit new.made below)
     ∙ ap (λ x. Moves x (all_acted s ds m)) made ∙ ap (Moves acts) after
 
 -- ---- the controls after an act
@@ -229,6 +234,7 @@ can_act_now law n at clock c h can = record {
   openings = h.openings;
   due_room = omega (arith, law (length c.states.items) c.queue.next c.queue.entries h.queue, h.due_room);
   made = omega (arith, h.made, h.limit);
+  now = h.now;
 }
 
 queue_later : (n next : ℕ) (es : List Entry) → IsQueueOf n next es → IsQueueOf n next (later es)
@@ -273,12 +279,13 @@ acted_controls n at at' clock clock' c new acts h a differs =
     }
 
 pub acted_numbers : (n : ℕ) (at at' : CodePositions) (clock clock' : Clock) (c new last : Controls) (vs : List Verdict) (acts : List Act)
+    (first : ℕ)
     → IsAfterReactions n at clock c new vs →
-    HaveActed at at' clock clock' new last acts → HasNumbers last
-acted_numbers n at at' clock clock' c new last vs acts h a =
+    HaveActed at at' clock clock' new last acts → HasNumbers first c → HasNumbers first last
+acted_numbers n at at' clock clock' c new last vs acts first h a numbers =
     let each : length last.states.items ≡ length c.states.items =
     sym (length-map last.states.items probe_in) ∙ ap length (a.probes ∙ h.probes) ∙ length-map c.states.items probe_in in
     let most : last.made ≡ c.made + 1 = a.made ∙ ap (λ k. k + 1) h.made in
     let product : last.made * length last.states.items ≡ c.made * length c.states.items + length c.states.items =
     ap (λ k. k * length last.states.items) most ∙ ap (λ k. (c.made + 1) * k) each ∙ omega arith in
-    omega (arith, product, h.numbers, a.next)
+    omega (arith, product, h.numbers, numbers, a.next)

@@ -1,5 +1,5 @@
 -- A settle of a circuit: where it is after each round, and what is told of how it ends.
-use Rattle.std.proofs.Common.{append-nil, ◌≡◌, ℕ, ◌+◌, ◌-◌, ◌<◌, ◌≤◌, ◌^◌, inl, inr, None, Some, Option, List, [], ◌∷◌, ◌++◌, length, map, Result, Ok, Err, refl, sym, ap, ◌∙◌, subst, arith}
+use Rattle.std.proofs.Common.{append-nil, mul-le-mul, ◌≡◌, ℕ, ◌+◌, ◌*◌, ◌-◌, ◌<◌, ◌≤◌, ◌^◌, inl, inr, None, Some, Option, List, [], ◌∷◌, ◌++◌, length, map, Result, Ok, Err, refl, sym, ap, ◌∙◌, subst, arith}
 use Rattle.std.proofs.lemmas.List.Elements.{All-from_get_or}
 use Rattle.fd_sample.specs.dss_model.declared.command.Blame.{Blame}
 use Rattle.fd_sample.specs.dss_layout.Layout.{layout_of, size_of}
@@ -20,8 +20,9 @@ use Rattle.fd_cert.specs.fd_enclosure.Sound.{Claim, IsSound}
 use Rattle.fd_cert.specs.Claims.{claim_in}
 use Rattle.fd_cert.specs.declared.ball.Certified.{Certified}
 use Rattle.fd_sample.specs.fd_queue.Controls.{Positions}
-use Rattle.fd_sample.specs.fd_queue.Machine.{Act, Machine, settle_rule}
+use Rattle.fd_sample.specs.fd_queue.Machine.{Act, Machine, rule_of}
 use Rattle.fd_sample.specs.fd_queue.MachineLaws.{CountLaw}
+use Rattle.fd_sample.specs.fd_queue.declared.timing.Timing.{Timing}
 use Rattle.fd_sample.specs.Balls.{IsBall}
 use Rattle.fd_sample.specs.Probes.{control_of, positions_in}
 use Rattle.fd_sample.specs.declared.probe.Probe.{Probe}
@@ -35,13 +36,13 @@ use Rattle.fd_settle.specs.declared.round.Act.{Act as Made}
 use Rattle.fd_settle.specs.declared.round.Round.{Round}
 use Rattle.fd_settle.specs.Sampling.{look_over}
 use Rattle.fd_settle.specs.Settle.{End, Open, Settled, Limited, Undecidable, Outcome, Moves, Settle, outcome_of}
-use Rattle.fd_settle.specs.Plant.{Plant, blame_at, controls_in, network_at, plant_of, setup_of}
+use Rattle.fd_settle.specs.Plant.{Plant, blame_at, controls_in, network_at, plant_of, setup_of, timing_of}
 use Rattle.fd_settle.specs.Rounds.{AtEach, acts_in, claims_in, left_by, seen}
 use Rattle.fd_settle.specs.Calls.{AreCalls, IsLast}
-use Rattle.fd_settle.specs.Contract.{CallsAs, EndsAs, appended, begun, settled_in}
+use Rattle.fd_settle.specs.Contract.{CallsAs, EndsAs, appended, settled_in}
 use Rattle.fd_settle.specs.Refused.{refused}
 use Rattle.fd_settle.specs.Start.{ArePositions, IsClock, IsNetworkAt, IsSoundAt}
-use Rattle.fd_settle.specs.Controls.{AreControls, IfMoved, TellsActs, end_told, machine_of, probes_in, setup_in, shown}
+use Rattle.fd_settle.specs.Controls.{AreAtWork, AreControls, HasNumbers, IfMoved, TellsActs, end_told, machine_of, probes_in, setup_in, shown}
 use Rattle.fd_settle.proofs.Going.{IsStanding, acts_of, end_of, kept_more, appended_more, last_by, nothing_appended, round_counts, round_more}
 
 -- ---- the network at positions
@@ -93,60 +94,37 @@ ball_of v m s =
 
 -- ---- what a settle leaves
 
--- The rounds that were appended are those of a settle that is open or ends so, and positions, clock and solver are what it leaves.
-pub record IsLeft {V F : Type 0} (gives : V → NetworkView → Result Claim F → V → Type 0) (c : CircuitView)
-    (powers : List LoadPower) (v : V) (m : Machine) (old new : List Round) (end : End) (n : Machine)
-    (there : CodePositions) (times : Clock) (w : V) : Type 0 where
+-- The rounds that were appended are those of a settle that is open or ends so, and positions, clock, controls and solver
+-- are what it leaves.
+pub record IsUnderway {V F : Type 0} (gives : V → NetworkView → Result Claim F → V → Type 0) (c : CircuitView)
+    (powers : List LoadPower) (v : V) (m : Machine) (old new : List Round) (end : End) (at : CodePositions)
+    (clock : Clock) (controls : Controls) (w : V) : Type 0 where
   pub kept : new ≡ old ++ appended old new
-  pub stands : IsStanding gives (IsSoundAt c powers) (plant_of c powers) v m (appended old new) end n w
-  pub at : positions_in there ≡ n.at
-  pub opened : times.opened.items ≡ n.opened
-  pub now : times.now ≡ m.now
-  pub positions : ArePositions c powers (positions_in there)
-  pub clock : IsClock c times
+  pub stands : IsStanding gives (IsSoundAt c powers) (plant_of c powers) v m (appended old new) end (machine_of at clock controls) w
+  pub now : clock.now ≡ m.now
+  pub positions : ArePositions c powers (positions_in at)
+  pub clock' : IsClock c clock
+  pub work : AreAtWork c at clock controls
 
 -- before the first round
-pub left_first : {V F : Type 0} (gives : V → NetworkView → Result Claim F → V → Type 0) (c : CircuitView)
+pub underway_first : {V F : Type 0} (gives : V → NetworkView → Result Claim F → V → Type 0) (c : CircuitView)
     (powers : List LoadPower) (v : V) (old new : List Round) (at : CodePositions) (clock : Clock)
-    → new ≡ old → ArePositions c powers (positions_in at) → IsClock c clock
-    → IsLeft gives c powers v (begun c at clock) old new Open (begun c at clock) at clock v
-left_first gives c powers v old new at clock same positions times =
+    (controls : Controls)
+    → new ≡ old → ArePositions c powers (positions_in at) → IsClock c clock → AreAtWork c at clock controls
+    → IsUnderway gives c powers v (machine_of at clock controls) old new Open at clock controls v
+underway_first gives c powers v old new at clock controls same positions times work =
+    let m = machine_of at clock controls in
     let none : appended old new ≡ [] = ap (appended old) same ∙ nothing_appended old in
     record {
       kept = same ∙ sym (append-nil old) ∙ ap (λ (rs : List Round). old ++ rs) (sym none);
       stands = subst (λ (rs : List Round).
-          IsStanding gives (IsSoundAt c powers) (plant_of c powers) v (begun c at clock) rs Open (begun c at clock) v)
+          IsStanding gives (IsSoundAt c powers) (plant_of c powers) v m rs Open m v)
           (sym none) (record { is_settle = refl; calls = refl; each = tt });
-      at = refl;
-      opened = refl;
       now = refl;
       positions = positions;
-      clock = times;
+      clock' = times;
+      work = work;
     }
-
--- The controls at work between the rounds of a settle.
-pub record IsUnderway {V F : Type 0} (gives : V → NetworkView → Result Claim F → V → Type 0) (c : CircuitView)
-    (powers : List LoadPower) (v : V) (m : Machine) (old new : List Round) (end : End) (at : CodePositions)
-    (clock : Clock) (controls : Controls) (w : V) : Type 0 where
-  pub left : IsLeft gives c powers v m old new end (machine_of at clock controls) at clock w
-  pub probes : probes_in controls ≡ controls_in c
-  pub limit : controls.limit ≡ c.options.maxcontroliter
-  pub keeps : AreControls (size_of (layout_of c.elements)) at clock controls
-
-pub underway_first : {V F : Type 0} (gives : V → NetworkView → Result Claim F → V → Type 0) (c : CircuitView)
-    (powers : List LoadPower) (v : V) (old new : List Round) (at : CodePositions) (clock : Clock)
-    (controls : Controls)
-    → new ≡ old → ArePositions c powers (positions_in at) → IsClock c clock → probes_in controls ≡ controls_in c
-    → controls.limit ≡ c.options.maxcontroliter → machine_of at clock controls ≡ begun c at clock
-    → AreControls (size_of (layout_of c.elements)) at clock controls
-    → IsUnderway gives c powers v (begun c at clock) old new Open at clock controls v
-underway_first gives c powers v old new at clock controls same positions times probes limit machine keeps = record {
-  left = subst (λ n. IsLeft gives c powers v (begun c at clock) old new Open n at clock v) (sym machine)
-      (left_first gives c powers v old new at clock same positions times);
-  probes = probes;
-  limit = limit;
-  keeps = keeps;
-}
 
 -- ---- a round
 
@@ -176,26 +154,31 @@ acts_shown (progress.Limited made) acts m h = ap (map seen) h.0
 acts_shown (progress.Undecided control low high edge) acts m h = ap (map seen) h
 
 -- the controls' own setup and samples are the circuit's
-same_round : (c : CircuitView) (ps : List Probe) (limit : ℕ) (n : Machine) (x : Claim) (o : Outcome)
-    → ps ≡ controls_in c → limit ≡ c.options.maxcontroliter
-    → outcome_of (record { rule = settle_rule; controls = map control_of ps; limit = limit }) n (look_over ps n.at x)
+same_round : (c : CircuitView) (timing : Timing) (ps : List Probe) (limit : ℕ) (n : Machine) (x : Claim) (o : Outcome)
+    → timing ≡ timing_of c.options.controlmode → ps ≡ controls_in c → limit ≡ c.options.maxcontroliter
+    → outcome_of (record { rule = rule_of timing; controls = map control_of ps; limit = limit }) n (look_over ps n.at x)
     ≡ o
     → outcome_of (setup_of c) n (look_over (controls_in c) n.at x) ≡ o
-same_round c ps limit n x o probes most h = subst (λ (k : ℕ). outcome_of (record {
-  rule = settle_rule;
+same_round c timing ps limit n x o times probes most h = subst (λ (t : Timing). outcome_of (record {
+  rule = rule_of t;
+  controls = map control_of (controls_in c);
+  limit = c.options.maxcontroliter;
+}) n (look_over (controls_in c) n.at x) ≡ o) times (subst (λ (k : ℕ). outcome_of (record {
+  rule = rule_of timing;
   controls = map control_of (controls_in c);
   limit = k;
 }) n (look_over (controls_in c) n.at x) ≡ o) most (subst (λ (qs : List Probe). outcome_of (record {
-  rule = settle_rule;
+  rule = rule_of timing;
   controls = map control_of qs;
   limit = limit;
-}) n (look_over qs n.at x) ≡ o) probes h)
+}) n (look_over qs n.at x) ≡ o) probes h))
 
 -- What a step of the controls says, in the words of its contract.
 pub record IsStep (at : CodePositions) (clock : Clock) (controls : Controls) (m : Certified) (q : Progress)
     (made : List Made) (to : CodePositions) (then' : Clock) (after : Controls) : Type 0 where
   pub probes : probes_in after ≡ probes_in controls
   pub limit : after.limit ≡ controls.limit
+  pub timing : after.timing ≡ controls.timing
   pub round : outcome_of (setup_in controls) (machine_of at clock controls)
       (look_over (probes_in controls) (positions_in at) (claim_in m))
       ≡ shown q (map seen made) (machine_of to then' after)
@@ -301,47 +284,49 @@ calls_refused T gives p v m rs build_fault.NoMemory w h = inl h
 
 -- its clauses, in their order
 pub record IsOver {V T F : Type 0} (gives : V → NetworkView → Result Claim F → V → Type 0) (c : CircuitView)
-    (powers : Powers) (from' : CodePositions) (start : Clock) (v : V) (old new : List Round) (there : CodePositions)
-    (times : Clock) (result : Result T (SettleFault F)) (w : V) : Type 0 where
+    (powers : Powers) (m : Machine) (v : V) (old new : List Round) (there : CodePositions)
+    (times : Clock) (controls : Controls) (result : Result T (SettleFault F)) (w : V) : Type 0 where
   pub kept : new ≡ old ++ appended old new
-  pub acts : acts_in (appended old new) ≡ (settled_in c powers from' start old new).rounds
-  pub at : positions_in there ≡ (settled_in c powers from' start old new).machine.at
-  pub opened : times.opened.items ≡ (settled_in c powers from' start old new).machine.opened
-  pub now : times.now ≡ start.now
-  pub ends : EndsAs (plant_of c powers.loads) result (settled_in c powers from' start old new).end (settled_in c powers from' start old new).machine
-  pub calls : CallsAs gives (plant_of c powers.loads) v (begun c from' start) (appended old new) result w
-  pub sound : AtEach (IsSoundAt c powers.loads) (plant_of c powers.loads) (begun c from' start) (claims_in (appended old new))
+  pub acts : acts_in (appended old new) ≡ (settled_in c powers m old new).rounds
+  pub machine : machine_of there times controls ≡ (settled_in c powers m old new).machine
+  pub now : times.now ≡ m.now
+  pub ends : EndsAs (plant_of c powers.loads) result (settled_in c powers m old new).end (settled_in c powers m old new).machine
+  pub calls : CallsAs gives (plant_of c powers.loads) v m (appended old new) result w
+  pub sound : AtEach (IsSoundAt c powers.loads) (plant_of c powers.loads) m (claims_in (appended old new))
   pub positions : ArePositions c powers.loads (positions_in there)
   pub clock : IsClock c times
+  pub work : AreAtWork c there times controls
 
 pub over : {V T F : Type 0} (gives : V → NetworkView → Result Claim F → V → Type 0) (c : CircuitView)
-    (powers : Powers) (from' : CodePositions) (start : Clock) (v : V) (old new : List Round) (end : End) (n : Machine)
-    (at : CodePositions) (clock : Clock) (result : Result T (SettleFault F)) (u w : V)
-    → IsLeft gives c powers.loads v (begun c from' start) old new end n at clock u
-    → EndsAs (plant_of c powers.loads) result end n
-    → CallsAs gives (plant_of c powers.loads) v (begun c from' start) (appended old new) result w
-    → IsOver gives c powers from' start v old new at clock result w
-over gives c powers from' start v old new end n at clock result u w h e k =
-    let is : settled_in c powers from' start old new ≡ record { rounds = acts_in (appended old new); end = end; machine = n } = h.stands.is_settle in
+    (powers : Powers) (m : Machine) (v : V) (old new : List Round) (end : End)
+    (at : CodePositions) (clock : Clock) (controls : Controls) (result : Result T (SettleFault F)) (u w : V)
+    → IsUnderway gives c powers.loads v m old new end at clock controls u
+    → EndsAs (plant_of c powers.loads) result end (machine_of at clock controls)
+    → CallsAs gives (plant_of c powers.loads) v m (appended old new) result w
+    → IsOver gives c powers m v old new at clock controls result w
+over gives c powers m v old new end at clock controls result u w h e k =
+    let is : settled_in c powers m old new
+    ≡ record { rounds = acts_in (appended old new); end = end; machine = machine_of at clock controls } =
+    h.stands.is_settle in
     record {
       kept = h.kept;
       acts = sym (ap (λ (s : Settle). s.rounds) is);
-      at = h.at ∙ sym (ap (λ (s : Settle). s.machine.at) is);
-      opened = h.opened ∙ sym (ap (λ (s : Settle). s.machine.opened) is);
+      machine = sym (ap (λ (s : Settle). s.machine) is);
       now = h.now;
       ends = subst (λ (s : Settle). EndsAs (plant_of c powers.loads) result s.end s.machine) (sym is) e;
       calls = k;
       sound = h.stands.each;
       positions = h.positions;
-      clock = h.clock;
+      clock = h.clock';
+      work = h.work;
     }
 
 -- ---- the loop
 
 module _ {V F : Type 0} (gives : V → NetworkView → Result Claim F → V → Type 0) (c : CircuitView) (powers : Powers)
-    (from' : CodePositions) (start : Clock) (v : V) (old mid : List Round) (at : CodePositions) (clock : Clock)
+    (m : Machine) (v : V) (old mid : List Round) (at : CodePositions) (clock : Clock)
     (controls : Controls) (net : BuiltView) (w : V)
-    (h : IsUnderway gives c powers.loads v (begun c from' start) old mid Open at clock controls w)
+    (h : IsUnderway gives c powers.loads v m old mid Open at clock controls w)
     (here : IsNetworkAt c powers.loads (positions_in at) net) where
   -- a round more
   pub underway_more : IsNetwork net.rows
@@ -349,7 +334,7 @@ module _ {V F : Type 0} (gives : V → NetworkView → Result Claim F → V → 
       (then' : Clock) (after : Controls)
       → view ≡ net.rows → gives w view (Ok (claim_in r.certified)) u → IsSound view (claim_in r.certified)
       → new ≡ mid ++ r ∷ [] → IsStep at clock controls r.certified q r.acts.items to then' after
-      → IsUnderway gives c powers.loads v (begun c from' start) old new (end_by q) to then' after u
+      → IsUnderway gives c powers.loads v m old new (end_by q) to then' after u
   underway_more valid view r u new q to then' after is gave sound more s =
       let n = machine_of at clock controls in
       let next = machine_of to then' after in
@@ -357,92 +342,103 @@ module _ {V F : Type 0} (gives : V → NetworkView → Result Claim F → V → 
       let own : IsSound (network_at c powers.loads (positions_in at)) (claim_in r.certified) =
       subst (λ (x : NetworkView). IsSound x (claim_in r.certified)) same sound in
       let outcome : outcome_of (setup_of c) n (look_over (controls_in c) n.at (claim_in r.certified)) ≡ shown q (map seen r.acts.items) next =
-      same_round c (probes_in controls) controls.limit n (claim_in r.certified) (shown q (map seen r.acts.items) next) h.probes h.limit s.round in
-      let stands = round_more gives (IsSoundAt c powers.loads) (plant_of c powers.loads) v (begun c from' start)
-      (appended old mid) n w r (shown q (map seen r.acts.items) next) u h.left.stands here.in_range
+      same_round c controls.timing (probes_in controls) controls.limit n (claim_in r.certified) (shown q (map seen r.acts.items) next) h.work.timing h.work.probes h.work.limit s.round in
+      let stands = round_more gives (IsSoundAt c powers.loads) (plant_of c powers.loads) v m
+      (appended old mid) n w r (shown q (map seen r.acts.items) next) u h.stands here.in_range
       (subst (λ (x : NetworkView). gives w x (Ok (claim_in r.certified)) u) same gave) (record {
-        positions = h.left.positions;
+        positions = h.positions;
         agrees = here.agrees;
         network = subst IsNetwork here.rows valid;
         sound = own;
       }) outcome (acts_shown q r.acts.items next s.acts) in
       let long = centre_long c powers.loads (positions_in at) view r.certified same sound in
       let keeps = subst (λ k. AreControls k to then' after) long s.keeps in
-      let positions = stepped_positions c powers.loads (size_of (layout_of c.elements)) at to then' after h.left.positions keeps s.taps s.closed in
+      let positions = stepped_positions c powers.loads (size_of (layout_of c.elements)) at to then' after h.positions keeps s.taps s.closed in
       record {
-        left = record {
-          kept = kept_more old mid new r h.left.kept more;
-          stands = subst (λ (rs : List Round).
-              IsStanding gives (IsSoundAt c powers.loads) (plant_of c powers.loads) v (begun c from' start) rs
-              (end_by q) next u) (sym (appended_more old mid new r h.left.kept more)) (subst (λ (e : End).
-              IsStanding gives (IsSoundAt c powers.loads) (plant_of c powers.loads) v (begun c from' start)
-              (appended old mid ++ r ∷ []) e next u) (end_shown q (map seen r.acts.items) next)
-              (subst (λ (k : Machine). IsStanding gives (IsSoundAt c powers.loads) (plant_of c powers.loads) v
-              (begun c from' start) (appended old mid ++ r ∷ []) (end_of (shown q (map seen r.acts.items) next)) k u)
-              (left_shown q (map seen r.acts.items) next) stands));
-          at = refl;
-          opened = refl;
-          now = s.time ∙ h.left.now;
-          positions = positions;
-          clock = stepped_clock c powers.loads (size_of (layout_of c.elements)) to then' after positions keeps;
+        kept = kept_more old mid new r h.kept more;
+        stands = subst (λ (rs : List Round).
+            IsStanding gives (IsSoundAt c powers.loads) (plant_of c powers.loads) v m rs
+            (end_by q) next u) (sym (appended_more old mid new r h.kept more)) (subst (λ (e : End).
+            IsStanding gives (IsSoundAt c powers.loads) (plant_of c powers.loads) v m
+            (appended old mid ++ r ∷ []) e next u) (end_shown q (map seen r.acts.items) next)
+            (subst (λ (k : Machine). IsStanding gives (IsSoundAt c powers.loads) (plant_of c powers.loads) v
+            m (appended old mid ++ r ∷ []) (end_of (shown q (map seen r.acts.items) next)) k u)
+            (left_shown q (map seen r.acts.items) next) stands));
+        now = s.time ∙ h.now;
+        positions = positions;
+        clock' = stepped_clock c powers.loads (size_of (layout_of c.elements)) to then' after positions keeps;
+        work = record {
+          probes = s.probes ∙ h.work.probes;
+          limit = s.limit ∙ h.work.limit;
+          timing = s.timing ∙ h.work.timing;
+          keeps = keeps;
         };
-        probes = s.probes ∙ h.probes;
-        limit = s.limit ∙ h.limit;
-        keeps = keeps;
       }
 
   -- the call of which nothing was appended
   pub last_call : (view : NetworkView) (answer : Result Claim F) (u : V) → view ≡ net.rows → gives w view answer u
-      → IsLast gives (plant_of c powers.loads) v (begun c from' start) (appended old mid) answer u
+      → IsLast gives (plant_of c powers.loads) v m (appended old mid) answer u
   last_call view answer u is gave =
-      last_by gives (IsSoundAt c powers.loads) (plant_of c powers.loads) v (begun c from' start)
-      (appended old mid) Open (machine_of at clock controls) w answer u h.left.stands here.in_range
+      last_by gives (IsSoundAt c powers.loads) (plant_of c powers.loads) v m
+      (appended old mid) Open (machine_of at clock controls) w answer u h.stands here.in_range
       (subst (λ (x : NetworkView). gives w x answer u) (is ∙ here.rows) gave)
 
   -- the solver answers a fault
   pub over_solver : (view : NetworkView) (f : F) (u : V) → view ≡ net.rows → gives w view (Err f) u
-      → IsOver {T = Unit} gives c powers from' start v old mid at clock (Err (fault.Solver f)) u
+      → IsOver {T = Unit} gives c powers m v old mid at clock controls (Err (fault.Solver f)) u
   over_solver view f u is gave =
-      over {T = Unit} gives c powers from' start v old mid Open (machine_of at clock controls) at clock
-      (Err (fault.Solver f)) w u h.left refl (last_call view (Err f) u is gave)
+      over {T = Unit} gives c powers m v old mid Open at clock controls
+      (Err (fault.Solver f)) w u h refl (last_call view (Err f) u is gave)
 
   -- there is no room for the round
-  pub over_memory : (view : NetworkView) (m : Claim) (u : V) (result : Result Unit (SettleFault F)) → view ≡ net.rows
-      → gives w view (Ok m) u → result ≡ Err fault.NoMemory
-      → IsOver gives c powers from' start v old mid at clock result u
-  over_memory view m u result is gave same =
-      over gives c powers from' start v old mid Open (machine_of at clock controls) at clock result w u h.left
+  pub over_memory : (view : NetworkView) (claim : Claim) (u : V) (result : Result Unit (SettleFault F)) → view ≡ net.rows
+      → gives w view (Ok claim) u → result ≡ Err fault.NoMemory
+      → IsOver gives c powers m v old mid at clock controls result u
+  over_memory view claim u result is gave same =
+      over gives c powers m v old mid Open at clock controls result w u h
       (subst (λ (x : Result Unit (SettleFault F)).
       EndsAs (plant_of c powers.loads) x Open (machine_of at clock controls)) (sym same) refl)
       (subst (λ (x : Result Unit (SettleFault F)).
-      CallsAs gives (plant_of c powers.loads) v (begun c from' start) (appended old mid) x u)
-      (sym same) (inr (record { missing = m; call = last_call view (Ok m) u is gave })))
+      CallsAs gives (plant_of c powers.loads) v m (appended old mid) x u)
+      (sym same) (inr (record { missing = claim; call = last_call view (Ok claim) u is gave })))
 
 module _ {V F : Type 0} (gives : V → NetworkView → Result Claim F → V → Type 0) (c : CircuitView) (powers : Powers)
-    (from' : CodePositions) (start : Clock) (v : V) (old new : List Round) (at : CodePositions) (clock : Clock)
+    (m : Machine) (v : V) (old new : List Round) (at : CodePositions) (clock : Clock)
     (controls : Controls) (w : V) where
   -- a round ends the settle
   pub over_told : (q : Progress) (result : Result Unit (SettleFault F)) (acts : List Made)
-      → IsUnderway gives c powers.loads v (begun c from' start) old new (end_by q) at clock controls w
+      → IsUnderway gives c powers.loads v m old new (end_by q) at clock controls w
       → end_told q ≡ Some result → TellsActs q acts (machine_of at clock controls) →
-      IsOver gives c powers from' start v old new at clock result w
+      IsOver gives c powers m v old new at clock controls result w
   over_told q result acts h e t =
-      over gives c powers from' start v old new (end_by q) (machine_of at clock controls) at clock result w w h.left
+      over gives c powers m v old new (end_by q) at clock controls result w w h
       (ends_told (plant_of c powers.loads) q result acts (machine_of at clock controls) e t)
-      (calls_told gives (plant_of c powers.loads) v (begun c from' start) (appended old new) q result w e h.left.stands.calls)
+      (calls_told gives (plant_of c powers.loads) v m (appended old new) q result w e h.stands.calls)
 
   -- the network at the positions behind a round is refused
   pub over_refused : (f : BuildFault) (result : Result Unit (SettleFault F))
-      → IsUnderway gives c powers.loads v (begun c from' start) old new Open at clock controls w
+      → IsUnderway gives c powers.loads v m old new Open at clock controls w
       → IsFaultOf (range_blame c.elements (devices_of c (settings_of at powers))) f → result ≡ Err (refused f) →
-      IsOver gives c powers from' start v old new at clock result w
+      IsOver gives c powers m v old new at clock controls result w
   over_refused f result h k same =
       let fault_of = subst (λ (b : Option Blame). IsFaultOf b f) (sym (blame_is c powers at)) k in
-      over gives c powers from' start v old new Open (machine_of at clock controls) at clock result w w h.left
+      over gives c powers m v old new Open at clock controls result w w h
       (subst (λ (x : Result Unit (SettleFault F)).
       EndsAs (plant_of c powers.loads) x Open (machine_of at clock controls))
       (sym same) (ends_refused Unit F (plant_of c powers.loads) f (machine_of at clock controls) fault_of))
       (subst (λ (x : Result Unit (SettleFault F)).
-      CallsAs gives (plant_of c powers.loads) v (begun c from' start) (appended old new) x w)
-      (sym same) (calls_refused Unit gives (plant_of c powers.loads) v (begun c from' start) (appended old new) f w
-      h.left.stands.calls))
+      CallsAs gives (plant_of c powers.loads) v m (appended old new) x w)
+      (sym same) (calls_refused Unit gives (plant_of c powers.loads) v m (appended old new) f w
+      h.stands.calls))
+
+-- ---- sequence numbers
+
+most_numbers : (made n : ℕ) → made ≤ 100 → n < 2 ^ 18 → made * n ≤ 100 * 2 ^ 18
+most_numbers made n h k = mul-le-mul h (let l : n ≤ 2 ^ 18 = omega (arith, k) in l)
+
+-- the number of a settle's last entry
+pub few_numbers : (n first : ℕ) (at : CodePositions) (clock : Clock) (controls : Controls) → AreControls n at clock controls
+    → HasNumbers first controls → controls.queue.next + length controls.states.items ≤ first + 2 ^ 25
+few_numbers n first at clock controls h k =
+    let most = most_numbers controls.made (length controls.states.items) (omega (arith, h.made, h.limit)) h.few in
+    omega (arith, k, most, h.few)

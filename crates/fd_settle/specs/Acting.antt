@@ -7,10 +7,11 @@ use Rattle.fd_sample.specs.fd_capctl.CapState.{AreEarly, IsEarly, opened_at, swi
 use Rattle.fd_sample.specs.fd_capctl.CapState as bank
 use Rattle.fd_sample.specs.fd_queue.Controls.{Control, Positions, Regulates, Switches, no_taps, tap_of}
 use Rattle.fd_sample.specs.fd_queue.Decisions.{Decision, Raise, Hold, Lower, is_raise, steps_of, way_of}
-use Rattle.fd_sample.specs.fd_queue.Machine.{Act, Machine, Setup, ShowsQueue, acts_of, all_acted, moved, reacted, sampled, settle_rule, signed_steps}
+use Rattle.fd_sample.specs.fd_queue.Machine.{Act, Machine, Setup, ShowsQueue, acts_of, all_acted, moved, reacted, rule_of, sampled, signed_steps}
 use Rattle.fd_sample.specs.fd_queue.Queue.{InPairs, QueueView, later, nearest}
 use Rattle.fd_sample.specs.fd_queue.Verdicts.{decision, is_decided}
 use Rattle.fd_sample.specs.fd_queue.declared.entry.Entry.{Entry}
+use Rattle.fd_sample.specs.fd_queue.declared.timing.Timing.{Timing}
 use Rattle.fd_sample.specs.fd_queue.declared.verdict.Verdict.{Verdict}
 use Rattle.fd_sample.specs.fd_regctl.RegState.{changer, moved_pair}
 use Rattle.fd_sample.specs.fd_regctl.RegState as regulator
@@ -79,6 +80,11 @@ opened_for opened (probe.Bank p) = get_or opened p.bank None
 abbrev pub fresh_from : List (Option ℕ) → ℕ → List Probe → List ControlState
 fresh_from opened k [] = []
 fresh_from opened k (p ∷ ps) = fresh k (opened_for opened p) p ∷ fresh_from opened (suc k) ps
+
+-- without its latest move
+abbrev pub rested : ControlState → ControlState
+rested (state.Regulator p s) = state.Regulator p (record s { moved = None })
+rested (state.Bank p s) = state.Bank p (record s { moved = None })
 
 -- ---- sampling
 
@@ -183,21 +189,26 @@ abbrev pub stands_after : ControlState → List TapPair → ℕ
 stands_after (state.Regulator p s) taps = tap_of p.is_second (moved_pair s (get_or taps p.transformer no_taps))
 stands_after (state.Bank p s) taps = if is_raise s.verdict then 1 else 0
 
--- the act of its entry
-abbrev pub act_of : ControlState → Entry → List TapPair → Act
-act_of s e taps = record {
-  time = e.time;
+-- the act of its entry at this time
+abbrev pub act_of : ControlState → ℕ → Entry → List TapPair → Act
+act_of s time e taps = record {
+  time = time;
   control = e.control;
   steps = signed_steps (is_raise (verdict_in s)) (steps_of (verdict_in s));
   after = stands_after s taps;
 }
 
--- the machine with these controls, where their devices stand so
-abbrev pub acting : List TapPair → List Bool → List (Option ℕ) → List ControlState → Machine → Machine
-acting taps closed opened ss m = record m { at = record { taps = taps; closed = closed }; opened = opened; moves = map moved_in ss }
+-- the machine at this time with these controls, where their devices stand so
+abbrev pub acting : ℕ → List TapPair → List Bool → List (Option ℕ) → List ControlState → Machine → Machine
+acting now taps closed opened ss m = record m {
+  at = record { taps = taps; closed = closed };
+  now = now;
+  opened = opened;
+  moves = map moved_in ss;
+}
 
-abbrev pub setup_of_states : ℕ → List ControlState → Setup
-setup_of_states limit ss = record { rule = settle_rule; controls = controls_of ss; limit = limit }
+abbrev pub setup_of_states : Timing → ℕ → List ControlState → Setup
+setup_of_states timing limit ss = record { rule = rule_of timing; controls = controls_of ss; limit = limit }
 
 -- the control of each entry can act
 abbrev pub AllCanAct : List TapPair → List ControlState → List Entry → Type 0
@@ -221,13 +232,14 @@ abbrev pub ReactionsLeadTo : Clock → List ControlState → List Decision → Q
 ReactionsLeadTo clock ss vs q after = (at : Positions) (made : ℕ) →
     sampled 0 (controls_of ss) vs (waiting at made clock ss q) ≡ waiting at made clock ss after
 
--- the acts of these entries lead from these controls and devices to those
-pub record ActsLeadTo (due : List Entry) (ss : List ControlState) (taps : List TapPair) (closed : List Bool) (opened : List (Option ℕ))
+-- the acts of these entries at this time lead from these controls and devices to those
+pub record ActsLeadTo (timing : Timing) (now : ℕ) (due : List Entry) (ss : List ControlState) (taps : List TapPair) (closed : List Bool) (opened : List (Option ℕ))
     (new : List ControlState) (taps' : List TapPair) (closed' : List Bool) (opened' : List (Option ℕ)) (made : List Act) : Type 0 where
   pub machine : (limit : ℕ) (m : Machine) →
-      fold (moved (setup_of_states limit ss) (map verdict_in ss)) (acting taps closed opened ss m) due ≡ acting taps' closed' opened' new m
+      fold (moved (setup_of_states timing limit ss) (map verdict_in ss)) (acting now taps closed opened ss m) due
+      ≡ acting now taps' closed' opened' new m
   pub acts : (limit : ℕ) (m : Machine)
-      → acts_of (setup_of_states limit ss) (map verdict_in ss) (acting taps closed opened ss m) due ≡ made
+      → acts_of (setup_of_states timing limit ss) (map verdict_in ss) (acting now taps closed opened ss m) due ≡ made
 
 -- what a reaction of all controls asks for
 pub record CanReact (clock : Clock) (c : Controls) : Type 0 where
@@ -255,6 +267,7 @@ pub record HaveReacted (clock : Clock) (c new : Controls) : Type 0 where
   pub due : new.due ≡ c.due
   pub made : new.made ≡ c.made
   pub limit : new.limit ≡ c.limit
+  pub timing : new.timing ≡ c.timing
 
 -- what an act of the nearest entries asks for
 pub record CanActNow (at : CodePositions) (clock : Clock) (c : Controls) : Type 0 where
@@ -264,13 +277,14 @@ pub record CanActNow (at : CodePositions) (clock : Clock) (c : Controls) : Type 
   pub openings : AllByRecursion OpensEarly c.queue.entries
   pub due_room : length c.queue.entries ≤ vec_capacity c.due
   pub made : c.made < 2 ^ 31
+  pub now : clock.now < 2 ^ 60
 
 -- what it leaves
 pub record HaveActed (at at' : CodePositions) (clock clock' : Clock) (c new : Controls) (acts : List Act) : Type 0 where
   pub machine : (limit : ℕ)
-      → all_acted (setup_of_states limit c.states.items) (map verdict_in c.states.items) (machine_of at clock c) ≡ machine_of at' clock' new
+      → all_acted (setup_of_states c.timing limit c.states.items) (map verdict_in c.states.items) (machine_of at clock c) ≡ machine_of at' clock' new
   pub made_acts : (limit : ℕ)
-      → acts_of (setup_of_states limit c.states.items) (map verdict_in c.states.items) (machine_of at clock c) (nearest c.queue.entries) ≡ acts
+      → acts_of (setup_of_states c.timing limit c.states.items) (map verdict_in c.states.items) (machine_of at clock c) (nearest c.queue.entries) ≡ acts
   pub standing : AreStanding at'.taps at'.closed clock'.opened.items new.states.items
   pub probes : probes_in new ≡ probes_in c
   pub each_tap : length at'.taps ≡ length at.taps
@@ -282,4 +296,5 @@ pub record HaveActed (at at' : CodePositions) (clock clock' : Clock) (c new : Co
   pub verdicts : new.verdicts ≡ c.verdicts
   pub made : new.made ≡ c.made + 1
   pub limit : new.limit ≡ c.limit
+  pub timing : new.timing ≡ c.timing
   pub now : clock'.now ≡ clock.now

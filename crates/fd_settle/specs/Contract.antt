@@ -8,13 +8,10 @@ use Rattle.fd_settle.specs.declared.fault.SettleFault.{SettleFault}
 use Rattle.fd_settle.specs.declared.fault.SettleFault.TheVariants as fault
 use Rattle.fd_sample.specs.dss_circuit.Circuit.{CircuitView}
 use Rattle.fd_sample.specs.dss_model.declared.options.Options.{Options}
-use Rattle.fd_sample.specs.fd_devices.declared.settings.Positions.{Positions as CodePositions}
 use Rattle.fd_sample.specs.fd_devices.declared.settings.Powers.{Powers}
 use Rattle.fd_inject.specs.declared.limits.Limits.{Limits}
-use Rattle.fd_sample.specs.Probes.{positions_in}
-use Rattle.fd_settle.specs.declared.clock.Clock.{Clock}
 use Rattle.fd_settle.specs.Settle.{End, Open, Settled, Limited, Undecidable, Settle}
-use Rattle.fd_settle.specs.Plant.{Plant, plant_of, started}
+use Rattle.fd_settle.specs.Plant.{Plant, plant_of}
 use Rattle.fd_settle.specs.Rounds.{claims_in, settled}
 use Rattle.fd_settle.specs.Calls.{AreCalls, IsLast, IsMissing}
 
@@ -26,13 +23,9 @@ appended old new = drop (length old) new
 abbrev pub limits_of : Options → Limits
 limits_of o = record { max_iterations = o.maxiterations; tolerance = o.tolerance }
 
--- the machine with which a settle of a circuit starts
-abbrev pub begun : CircuitView → CodePositions → Clock → Machine
-begun c at clock = started c (positions_in at) clock.now clock.opened.items
-
--- the settle of a circuit over the rounds that a call appended
-abbrev pub settled_in : CircuitView → Powers → CodePositions → Clock → List Round → List Round → Settle
-settled_in c powers at clock old new = settled (plant_of c powers.loads) (begun c at clock) (appended old new)
+-- the settle of a circuit from this machine on, over the rounds that a call appended
+abbrev pub settled_in : CircuitView → Powers → Machine → List Round → List Round → Settle
+settled_in c powers m old new = settled (plant_of c powers.loads) m (appended old new)
 
 -- How the settle over the appended rounds ends, and so why it ended. It is open where a call was refused.
 abbrev pub EndsAs : {T F : Type 0} → Plant → Result T (SettleFault F) → End → Machine → Type 0

@@ -4,7 +4,7 @@ use Rattle.std.specs.List.{AllByRecursion}
 use Rattle.fd_sample.specs.fd_xfmr.Leakage.{AreTaps}
 use Rattle.fd_sample.specs.fd_capctl.CapState.{IsEarly}
 use Rattle.fd_sample.specs.fd_devices.declared.settings.Positions.{Positions as CodePositions}
-use Rattle.fd_sample.specs.fd_queue.Machine.{Machine, Setup, Act, settle_rule}
+use Rattle.fd_sample.specs.fd_queue.Machine.{Machine, Setup, Act, rule_of}
 use Rattle.fd_sample.specs.fd_queue.MachineLaws.{IsQueueOf}
 use Rattle.fd_sample.specs.fd_queue.Queue.{InPairs}
 use Rattle.fd_sample.specs.fd_queue.declared.entry.Entry.{Entry}
@@ -12,6 +12,8 @@ use Rattle.fd_sample.specs.declared.probe.Probe.{Probe}
 use Rattle.fd_sample.specs.declared.probe.Probe.TheVariants as probe
 use Rattle.fd_sample.specs.Circuits.{AreApart, HasRange, HasTimes}
 use Rattle.fd_sample.specs.Probes.{HasDevice, IsProbe, control_of, positions_in}
+use Rattle.fd_sample.specs.dss_circuit.Circuit.{CircuitView}
+use Rattle.fd_sample.specs.dss_layout.Layout.{layout_of, size_of}
 use Rattle.fd_settle.specs.declared.clock.Clock.{Clock}
 use Rattle.fd_settle.specs.declared.controls.Controls.{Controls}
 use Rattle.fd_settle.specs.declared.state.ControlState.{ControlState}
@@ -21,6 +23,7 @@ use Rattle.fd_settle.specs.declared.fault.SettleFault.TheVariants as fault
 use Rattle.fd_settle.specs.declared.progress.Progress.{Progress}
 use Rattle.fd_settle.specs.declared.progress.Progress.TheVariants as progress
 use Rattle.fd_settle.specs.declared.round.Act.{Act as Made}
+use Rattle.fd_settle.specs.Plant.{controls_in, timing_of}
 use Rattle.fd_settle.specs.Settle.{Outcome, Ends, Moves, Settled, Limited, Undecidable}
 
 -- ---- what they show
@@ -38,7 +41,7 @@ moved_in (state.Regulator p s) = s.moved
 moved_in (state.Bank p s) = s.moved
 
 abbrev pub setup_in : Controls → Setup
-setup_in c = record { rule = settle_rule; controls = map control_of (probes_in c); limit = c.limit }
+setup_in c = record { rule = rule_of c.timing; controls = map control_of (probes_in c); limit = c.limit }
 
 abbrev pub machine_of : CodePositions → Clock → Controls → Machine
 machine_of at clock c = record {
@@ -109,12 +112,19 @@ pub record AreControls (n : ℕ) (at : CodePositions) (clock : Clock) (c : Contr
   pub limit : c.limit ≤ 100
   pub made : c.made ≤ c.limit
 
--- at most one sequence number for each control and each act so far
-abbrev pub HasNumbers : Controls → Type 0
-HasNumbers c = c.queue.next ≤ c.made * length c.states.items
+-- from this sequence number on at most one for each control and each act so far
+abbrev pub HasNumbers : ℕ → Controls → Type 0
+HasNumbers first c = c.queue.next ≤ first + c.made * length c.states.items
 
 abbrev pub IfMoved : Progress → Type 0 → Type 0
 IfMoved progress.Moved P = P
 IfMoved progress.Settled P = Unit {0}
 IfMoved (progress.Limited made) P = Unit {0}
 IfMoved (progress.Undecided control low high edge) P = Unit {0}
+
+-- The controls of a circuit at work, between two rounds of a settle or two hours of a Solve.
+pub record AreAtWork (c : CircuitView) (at : CodePositions) (clock : Clock) (controls : Controls) : Type 0 where
+  pub probes : probes_in controls ≡ controls_in c
+  pub limit : controls.limit ≡ c.options.maxcontroliter
+  pub timing : controls.timing ≡ timing_of c.options.controlmode
+  pub keeps : AreControls (size_of (layout_of c.elements)) at clock controls

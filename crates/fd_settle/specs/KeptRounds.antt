@@ -1,5 +1,5 @@
 -- What the rounds of a settle keep where its states are computed.
-use Rattle.std.specs.Prelude.{◌≡◌, ℕ, ◌<◌, ◌^◌, List, length, map, Option, All}
+use Rattle.std.specs.Prelude.{◌≡◌, ◌<◌, ◌^◌, List, length, map, All}
 use Rattle.std.specs.List.{AllByRecursion}
 use Rattle.fd_inject.specs.fd_exact.Sums.{list_n}
 use Rattle.fd_sample.specs.dss_circuit.Circuit.{CircuitView}
@@ -10,22 +10,29 @@ use Rattle.fd_sample.specs.fd_devices.Settings.{bank_count}
 use Rattle.fd_sample.specs.fd_elements.declared.powers.LoadPower.{LoadPower}
 use Rattle.fd_cert.specs.fd_enclosure.Sound.{Claim}
 use Rattle.fd_inject.specs.declared.limits.Limits.{Limits}
-use Rattle.fd_sample.specs.fd_queue.Controls.{Positions}
 use Rattle.fd_sample.specs.fd_queue.Machine.{Act, Machine}
+use Rattle.fd_sample.specs.fd_queue.MachineLaws.{KeepsQueue}
+use Rattle.fd_sample.specs.fd_queue.declared.entry.Entry.{Entry}
+use Rattle.fd_settle.specs.Controls.{OpensEarly}
 use Rattle.fd_settle.specs.Computed.{Ending, IsComputedFrom}
 use Rattle.fd_settle.specs.Numbers.{AreActNumbers}
-use Rattle.fd_settle.specs.Plant.{plant_of, started}
+use Rattle.fd_settle.specs.Plant.{plant_of, setup_of}
 use Rattle.fd_settle.specs.Rounds.{AtEach}
 use Rattle.fd_settle.specs.Start.{ArePositions}
 
--- with what a settle of a circuit may start: positions of the circuit, a time below 2^60 milliseconds, and an opening
--- time for each bank, or none
-pub record CanStart (c : CircuitView) (powers : List LoadPower) (at : Positions) (time : ℕ)
-    (opened : List (Option ℕ)) : Type 0 where
-  pub positions : ArePositions c powers at
-  pub now : time < 2 ^ 60
-  pub each : length opened ≡ list_n (λ e. bank_count e.1) c.elements
-  pub early : All IsEarly opened
+-- an entry's time has 63 bits, and one that opens a bank is early
+abbrev pub IsTimely : Entry → Type 0
+IsTimely e = (e.time < 2 ^ 63) × OpensEarly e
+
+-- with what a settle of a circuit may start: positions of the circuit, a time below 2^60 milliseconds, an opening time
+-- for each bank, or none, and a queue of its controls
+pub record CanStart (c : CircuitView) (powers : List LoadPower) (m : Machine) : Type 0 where
+  pub positions : ArePositions c powers m.at
+  pub now : m.now < 2 ^ 60
+  pub each : length m.opened ≡ list_n (λ e. bank_count e.1) c.elements
+  pub early : All IsEarly m.opened
+  pub queue : KeepsQueue (length (setup_of c).controls) m
+  pub timely : AllByRecursion IsTimely m.queue
 
 -- each round is made at positions of the circuit, its acts have modest numbers, and what is left can start another
 -- settle
@@ -33,12 +40,12 @@ pub record AreKept (c : CircuitView) (powers : List LoadPower) (m : Machine) (ro
     (n : Machine) : Type 0 where
   pub positions : AtEach (λ at y. ArePositions c powers at) (plant_of c powers) m (map (λ r. r.0) rounds)
   pub acts : AllByRecursion (λ r. AllByRecursion (λ (a : Act). AreActNumbers a.time a.control a.steps) r.1) rounds
-  pub left : CanStart c powers n.at n.now n.opened
+  pub left : CanStart c powers n
 
 abbrev pub KeptRoundsLaw : Type 0
 KeptRoundsLaw =
-    (c : CircuitView) (powers : List LoadPower) (at : Positions) (time : ℕ) (opened : List (Option ℕ)) (limits : Limits)
+    (c : CircuitView) (powers : List LoadPower) (m : Machine) (limits : Limits)
     (rounds : List (Claim × List Act)) (ending : Ending) (n : Machine) → HasPassed c → IsWithinLimits c.elements c.options
-    → CanStart c powers at time opened
-    → IsComputedFrom limits (plant_of c powers) (started c at time opened) rounds ending n
-    → AreKept c powers (started c at time opened) rounds n
+    → CanStart c powers m
+    → IsComputedFrom limits (plant_of c powers) m rounds ending n
+    → AreKept c powers m rounds n

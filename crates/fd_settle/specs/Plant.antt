@@ -11,7 +11,9 @@ use Rattle.fd_sample.specs.fd_devices.Settings.{Settings}
 use Rattle.fd_sample.specs.fd_network.Faults.{range_blame}
 use Rattle.fd_cert.specs.fd_enclosure.Sound.{Claim}
 use Rattle.fd_sample.specs.fd_queue.Controls.{Positions}
-use Rattle.fd_sample.specs.fd_queue.Machine.{Machine, Setup, settle_rule}
+use Rattle.fd_sample.specs.fd_queue.Machine.{Machine, Setup, rule_of}
+use Rattle.fd_sample.specs.fd_queue.declared.timing.Timing.{Timing}
+use Rattle.fd_sample.specs.fd_queue.declared.timing.Timing.TheVariants as timing
 use Rattle.fd_sample.specs.declared.probe.Probe.{Probe}
 use Rattle.fd_sample.specs.Circuits.{probes_of}
 use Rattle.fd_sample.specs.Probes.{control_of}
@@ -35,13 +37,20 @@ settings_at powers at = record { taps = at.taps; closed = at.closed; powers = po
 abbrev pub taking_part : ControlMode → List Probe → List Probe
 taking_part control_mode.Off ps = []
 taking_part control_mode.Static ps = ps
+taking_part control_mode.Time ps = ps
 
 -- the controls that take part in its settles
 abbrev pub controls_in : CircuitView → List Probe
 controls_in c = taking_part c.options.controlmode (probes_of c.elements)
 
+-- in controlmode time it goes on with the hours
+abbrev pub timing_of : ControlMode → Timing
+timing_of control_mode.Off = timing.Static
+timing_of control_mode.Static = timing.Static
+timing_of control_mode.Time = timing.Clock
+
 abbrev pub setup_of : CircuitView → Setup
-setup_of c = record { rule = settle_rule; controls = map control_of (controls_in c); limit = c.options.maxcontroliter }
+setup_of c = record { rule = rule_of (timing_of c.options.controlmode); controls = map control_of (controls_in c); limit = c.options.maxcontroliter }
 
 unfoldable pub network_at : CircuitView → List LoadPower → Positions → NetworkView
 network_at c powers at = circuit_network c (settings_at powers at)

@@ -1,5 +1,5 @@
 // The controls of a settle: they are sampled over a certified state, wait in the queue, and move their devices.
-ghost use Rattle.std.specs.Prelude.{◌≡◌, ◌<◌, ◌≤◌, ◌^◌, IfOk, List, [], length, map, vec_capacity};
+ghost use Rattle.std.specs.Prelude.{◌≡◌, ℕ, ◌+◌, ◌<◌, ◌≤◌, ◌^◌, IfOk, List, [], length, map, vec_capacity};
 ghost use Rattle.fd_sample.specs.dss_layout.Layout.{layout_of, size_of};
 ghost use Rattle.fd_sample.specs.dss_ready.Ready.{HasPassed};
 ghost use Rattle.fd_sample.specs.fd_devices.declared.settings.Positions.{Positions as CodePositions};
@@ -8,9 +8,11 @@ ghost use Rattle.fd_cert.specs.Claims.{claim_in};
 ghost use Rattle.fd_sample.specs.Balls.{IsBall};
 ghost use Rattle.fd_sample.specs.Circuits.{AreProbes};
 ghost use Rattle.fd_sample.specs.Probes.{positions_in};
-ghost use Rattle.fd_settle.specs.Acting.{CanActNow, CanReact, HaveActed, HaveReacted, fresh_from};
-ghost use Rattle.fd_settle.specs.Controls.{AreControls, HasNumbers, IfMoved, TellsActs, machine_of, probes_in, setup_in, shown};
-ghost use Rattle.fd_settle.specs.Plant.{controls_in, started};
+ghost use Rattle.fd_sample.specs.dss_circuit.Circuit.{CircuitView};
+ghost use Rattle.fd_sample.specs.fd_queue.Machine.{hour_begun};
+ghost use Rattle.fd_settle.specs.Acting.{CanActNow, CanReact, HaveActed, HaveReacted, fresh_from, rested};
+ghost use Rattle.fd_settle.specs.Controls.{AreAtWork, AreControls, HasNumbers, IfMoved, TellsActs, machine_of, probes_in, setup_in, shown};
+ghost use Rattle.fd_settle.specs.Plant.{controls_in, started, timing_of};
 ghost use Rattle.fd_settle.specs.Rounds.{seen};
 ghost use Rattle.fd_settle.specs.Sampling.{look_over};
 ghost use Rattle.fd_settle.specs.Settle.{outcome_of};
@@ -21,34 +23,36 @@ use crate::clock::Clock;
 use crate::progress::Progress;
 use crate::reacting::react_all;
 use crate::round::Act;
-use crate::sampling::{sample_all, some_moves};
+use crate::sampling::sample_all;
 use crate::state::ControlState;
 use fd_cert::Certified;
 use fd_sample::{
-    BankStates, Circuit, ControlMode, Entry, Layout, Positions, Probe, Queue, Taps, Verdict,
-    away_law, own_law, probes, queue_law, room_law, sampled_law, tap_law,
+    BankStates, Circuit, ControlMode, Entry, Layout, Positions, Probe, Queue, Taps, Timing,
+    Verdict, away_law, own_law, probes, queue_law, room_law, tap_law,
 };
 use std::alloc::{AllocError, Global};
 use std::mem;
 
-/// The controls of a circuit in the script's order, with the queue and with room for what a step needs.
+/// The controls of a circuit at work, in the script's order: what each measures and its latest move, the queue of their
+/// entries, the number of acts in the hour, and room for what a round needs. They live as long as a Solve.
 #[derive(Drop)]
-pub(crate) struct Controls {
+pub struct Controls {
     states: Vec<ControlState>,
     verdicts: Vec<Verdict>,
     queue: Queue,
     due: Vec<Entry>,
     made: u32,
     limit: u32,
+    timing: Timing,
 }
 
 impl Controls {
-    /// The controls of a circuit that passed the tests of Solve at the start of a settle, with room for all that they
-    /// need; none in controlmode off.
+    /// The controls of a circuit that passed the tests of Solve before the first hour of a Solve: none has moved, and the
+    /// queue is empty. There are none in controlmode off. All room that they need is taken here.
     ///
     /// # Errors
     /// `AllocError` where the memory is refused.
-    pub(crate) fn start(
+    pub fn start(
         alloc: Global,
         circuit: &Circuit,
         layout: &Layout,
@@ -57,15 +61,12 @@ impl Controls {
         requires ready { HasPassed circuit.now }
         requires layout { layout.now ≡ layout_of circuit.now.elements }
         requires clock { IsClock circuit.now clock.now }
-        ensures probes { IfOk result (λ c. probes_in c ≡ controls_in circuit.now) }
-        ensures limit { IfOk result (λ c. c.limit ≡ circuit.now.options.maxcontroliter) }
         ensures machine { IfOk result (λ c. (at : CodePositions)
             → machine_of at clock.entry.now c
             ≡ started circuit.now (positions_in at) clock.entry.now.now clock.entry.now.opened.items) }
-        ensures controls { IfOk result (λ c.
+        ensures work { IfOk result (λ c.
             (at : CodePositions) (powers : List LoadPower) → ArePositions circuit.now powers (positions_in at)
-            → AreControls (size_of (layout_of circuit.now.elements)) at clock.entry.now c) }
-        ensures numbers { IfOk result HasNumbers }
+            → AreAtWork circuit.now at clock.entry.now c) }
     {
         // (read for its clause: there are at most 2^17, and no more controls)
         let _elements = circuit.elements();
@@ -79,7 +80,35 @@ impl Controls {
             due: Vec::with_capacity(alloc, count)?,
             made: 0,
             limit: circuit.options().maxcontroliter,
+            timing: timing_of(circuit.options().controlmode),
         })
+    }
+
+    /// An hour of the Solve begins at this time, in milliseconds: acts are counted anew. In static mode the queue is
+    /// emptied and latest moves are forgotten; where the time goes on with the hours both stay.
+    pub fn begin_hour(&mut self, clock: &mut Clock, now: u64)
+        requires { now < 2 ^ 60 }
+        ensures machine { (at : CodePositions)
+            → machine_of at clock.new self.new ≡ hour_begun self.old.timing now (machine_of at clock.old self.old) }
+        ensures work { (circuit : CircuitView) (at : CodePositions) → AreAtWork circuit at clock.old self.old
+            → AreAtWork circuit at clock.new self.new }
+    {
+        clock.now = now;
+        self.made = 0;
+        match self.timing {
+            Timing::Static => {
+                self.queue.clear();
+                forget_moves(&mut self.states);
+            }
+            Timing::Clock => {}
+        }
+    }
+
+    /// The entries that wait in the queue, in order.
+    pub fn pending(&self) -> &[Entry]
+        ensures { (at : CodePositions) (clock : Clock) → result.now ≡ (machine_of at clock self.now).queue }
+    {
+        self.queue.entries()
     }
 
     /// How many controls there are.
@@ -100,24 +129,25 @@ impl Controls {
         acts: &mut Vec<Act>,
     ) -> Progress
         requires controls { AreControls (length certified.now.ball.centre.items) at.old clock.old self.old }
-        requires numbers { HasNumbers self.old }
+        requires numbers { self.old.queue.next < 2 ^ 62 }
         requires ball { IsBall certified.now.ball.centre.items certified.now.ball.radius.items }
         requires empty { acts.old.items ≡ [] }
         requires room { length self.old.states.items ≤ vec_capacity acts.old }
         ensures probes { probes_in self.new ≡ probes_in self.old }
         ensures limit { self.new.limit ≡ self.old.limit }
+        ensures timing { self.new.timing ≡ self.old.timing }
         ensures round { outcome_of (setup_in self.old) (machine_of at.old clock.old self.old)
             (look_over (probes_in self.old) (positions_in at.old) (claim_in certified.now))
             ≡ shown result (map seen acts.new.items) (machine_of at.new clock.new self.new) }
         ensures acts { TellsActs result acts.new.items (machine_of at.new clock.new self.new) }
         ensures controls { AreControls (length certified.now.ball.centre.items) at.new clock.new self.new }
-        ensures numbers { IfMoved result (HasNumbers self.new) }
+        ensures numbers { (first : ℕ) → HasNumbers first self.old → IfMoved result (HasNumbers first self.new) }
+        ensures few { self.new.queue.next ≤ self.old.queue.next + length self.old.states.items }
         ensures taps { length at.new.taps ≡ length at.old.taps }
         ensures closed { length at.new.closed ≡ length at.old.closed }
         ensures time { clock.new.now ≡ clock.old.now }
     {
         own_law();
-        sampled_law();
         queue_law();
         room_law();
         tap_law();
@@ -128,7 +158,7 @@ impl Controls {
             return end;
         }
         self.react(clock);
-        if !some_moves(&self.verdicts) {
+        if !self.queue.is_due(self.timing, clock.now) {
             Progress::Settled
         } else if self.made == self.limit {
             Progress::Limited { acts: self.made }
@@ -158,6 +188,8 @@ impl Controls {
         let mut taps = mem::replace(&mut at.taps, Taps::new(Vec::new(alloc))).into_vec();
         let mut closed = mem::replace(&mut at.closed, BankStates::new(Vec::new(alloc))).into_vec();
         act_all(
+            self.timing,
+            clock.now,
             &self.due,
             &mut self.states,
             &mut taps,
@@ -180,11 +212,30 @@ fn taking_part(alloc: Global, circuit: &Circuit, layout: &Layout) -> Result<Vec<
 {
     match circuit.options().controlmode {
         ControlMode::Off => Ok(Vec::new(alloc)),
-        ControlMode::Static => probes(alloc, circuit, layout),
+        ControlMode::Static | ControlMode::Time => probes(alloc, circuit, layout),
     }
 }
 
-// The states of controls at the start of a settle, numbered in order.
+// How the time goes with the queue.
+fn timing_of(mode: ControlMode) -> Timing
+    ensures { result ≡ timing_of mode }
+{
+    match mode {
+        ControlMode::Off | ControlMode::Static => Timing::Static,
+        ControlMode::Time => Timing::Clock,
+    }
+}
+
+// Each control forgets its latest move.
+fn forget_moves(states: &mut [ControlState])
+    ensures { states.new ≡ map rested states.old }
+{
+    for state in states.iter_mut() {
+        state.forget_move();
+    }
+}
+
+// The states of controls before the first hour, numbered in order.
 fn fresh_states(
     alloc: Global,
     probes: &[Probe],

@@ -35,6 +35,7 @@ mod state;
 
 pub use clock::Clock;
 pub use compute::{Compute, ComputeFault};
+pub use controls::Controls;
 pub use fault::SettleFault;
 pub use kept::{kept_law, kept_rounds_law, sound_at_law};
 pub use laws::{Sampled, agree_law, computation_law, history_law, whole_law};
@@ -49,6 +50,6 @@ pub use fd_cert::{
 };
 pub use fd_inject::{Dense, Limits, NetworkRows, Point, Rows, SolveFault};
 pub use fd_sample::{
-    CapProbe, CapState, Entry, Measured, Network, Queue, ReadyFault, RegProbe, RegState, Verdict,
-    bank_verdict, network_law, passed_law, ready, regulator_verdict,
+    CapProbe, CapState, Entry, Measured, Network, Queue, ReadyFault, RegProbe, RegState, Timing,
+    Verdict, bank_verdict, network_law, passed_law, ready, regulator_verdict,
 };

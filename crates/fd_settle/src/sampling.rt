@@ -1,10 +1,6 @@
 // The samples of the controls over a certified state.
 ghost use Rattle.std.specs.Prelude.{◌≡◌, ◌<◌, ◌≤◌, ◌^◌, All, length, map, vec_capacity, None};
-ghost use Rattle.std.specs.List.{list_any};
-ghost use Rattle.std.specs.Option.{is_some};
 ghost use Rattle.fd_sample.specs.fd_xfmr.Leakage.{AreTaps};
-ghost use Rattle.fd_sample.specs.fd_queue.Decisions.{way_of};
-ghost use Rattle.fd_sample.specs.fd_queue.Verdicts.{decision};
 ghost use Rattle.fd_sample.specs.Balls.{IsBall};
 ghost use Rattle.fd_sample.specs.Probes.{HasDevice, IsProbe, positions_in};
 ghost use Rattle.fd_settle.specs.Acting.{IsSampled, sampled_over};
@@ -47,11 +43,4 @@ pub(crate) fn sample_all(
         let _ = verdicts.push(verdict);
     }
     None
-}
-
-/// Whether a control wants to move.
-pub(crate) fn some_moves(verdicts: &[Verdict]) -> bool
-    ensures { result ≡ list_any (λ v. is_some (way_of (decision v))) verdicts.now }
-{
-    verdicts.iter().any(|verdict| verdict.way().is_some())
 }

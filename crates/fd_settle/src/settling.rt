@@ -1,13 +1,13 @@
 // A settle: solve, sample and act, and again.
-ghost use Rattle.std.specs.Prelude.{◌≡◌, ◌++◌, ◌<◌, ◌≤◌, [], All, IfOk, OnOk, vec_capacity, vec_len};
+ghost use Rattle.std.specs.Prelude.{◌≡◌, ◌+◌, ◌++◌, ◌<◌, ◌^◌, ◌≤◌, [], All, IfOk, OnOk, vec_capacity, vec_len};
 ghost use Rattle.fd_sample.specs.dss_model.InRange.{OptionsInRange};
 ghost use Rattle.fd_sample.specs.dss_ready.Ready.{HasPassed};
 ghost use Rattle.fd_sample.specs.fd_devices.Building.{IsModest};
 ghost use Rattle.fd_sample.specs.fd_network.Built.{IsBuiltOf};
 ghost use Rattle.fd_inject.specs.Procedure.{IsLimits};
 ghost use Rattle.fd_sample.specs.Probes.{positions_in};
-ghost use Rattle.fd_settle.specs.Contract.{CallsAs, EndsAs, appended, begun, limits_of, settled_in};
-ghost use Rattle.fd_settle.specs.Controls.{end_told};
+ghost use Rattle.fd_settle.specs.Contract.{CallsAs, EndsAs, appended, limits_of, settled_in};
+ghost use Rattle.fd_settle.specs.Controls.{AreAtWork, end_told, machine_of};
 ghost use Rattle.fd_settle.specs.Plant.{plant_of};
 ghost use Rattle.fd_settle.specs.Rounds.{AtEach, acts_in, claims_in};
 ghost use Rattle.fd_settle.specs.Start.{ArePositions, IsClock, IsNetworkAt, IsSoundAt};
@@ -24,15 +24,15 @@ use std::alloc::{AllocError, Global};
 
 /// Solves, samples and acts, and again, until no entry of the queue is due after a sampling. Each solved round is
 /// appended to `rounds`. The circuit passed the tests of Solve, and the network is its own at the positions as they are
-/// and these powers; it is brought up to date after each act. In controlmode off a settle is one solve, and no control
-/// is sampled.
+/// and these powers; it is brought up to date after each act. The controls stand at the start of their hour. In controlmode
+/// off a settle is one solve, and no control is sampled.
 ///
 /// # Errors
 /// `Range` exactly where the network at the positions that the acts left is out of range; `Solver` with the solver's
 /// own fault; `Undecided` exactly at the first control whose sample is undecided; `ControlLimit` exactly where an entry
 /// is due after as many acts as the options allow; `NoMemory`. After each of them `rounds` has what was solved in this
-/// settle, and `at` and `clock` are what the acts of these rounds left; after `NoMemory` the last solved round may be
-/// missing. Room for the controls is taken before the first solve.
+/// settle, and `at`, `clock` and `controls` are what the acts of these rounds left; after `NoMemory` the last solved round
+/// may be missing.
 pub fn settle<V: Solver>(
     alloc: Global,
     circuit: &Circuit,
@@ -40,6 +40,7 @@ pub fn settle<V: Solver>(
     powers: &Powers,
     at: &mut Positions,
     clock: &mut Clock,
+    controls: &mut Controls,
     solver: &mut V,
     rounds: &mut Vec<Round>,
 ) -> Result<(), SettleFault<V::Fault>>
@@ -47,33 +48,36 @@ pub fn settle<V: Solver>(
     requires positions { ArePositions circuit.now powers.now.loads (positions_in at.old) }
     requires modest { All IsModest powers.now.loads }
     requires clock { IsClock circuit.now clock.old }
+    requires work { AreAtWork circuit.now at.old clock.old controls.old }
+    requires numbers { (machine_of at.old clock.old controls.old).next < 2 ^ 61 }
     requires network { IsNetworkAt circuit.now powers.now.loads (positions_in at.old) net.old }
-    // Rounds are only appended. Their acts are those of the settle over their certified states, and the positions, the
-    // opening times and the network are what these acts left.
+    // Rounds are only appended. Their acts are those of the settle over their certified states, from the machine that the
+    // controls, the positions and the clock show; these then show the machine that it leaves.
     ensures kept { rounds.new.items ≡ rounds.old.items ++ appended rounds.old.items rounds.new.items }
     ensures acts { acts_in (appended rounds.old.items rounds.new.items)
-        ≡ (settled_in circuit.now powers.now at.old clock.old rounds.old.items rounds.new.items).rounds }
-    ensures at { positions_in at.new ≡ (settled_in circuit.now powers.now at.old clock.old rounds.old.items rounds.new.items).machine.at }
-    ensures opened { clock.new.opened.items ≡ (settled_in circuit.now powers.now at.old clock.old rounds.old.items rounds.new.items).machine.opened }
+        ≡ (settled_in circuit.now powers.now (machine_of at.old clock.old controls.old) rounds.old.items rounds.new.items).rounds }
+    ensures machine { machine_of at.new clock.new controls.new
+        ≡ (settled_in circuit.now powers.now (machine_of at.old clock.old controls.old) rounds.old.items rounds.new.items).machine }
     ensures now { clock.new.now ≡ clock.old.now }
     // How it ends is how that settle ends.
     ensures ends { EndsAs (plant_of circuit.now powers.now.loads) result
-        (settled_in circuit.now powers.now at.old clock.old rounds.old.items rounds.new.items).end
-        (settled_in circuit.now powers.now at.old clock.old rounds.old.items rounds.new.items).machine }
+        (settled_in circuit.now powers.now (machine_of at.old clock.old controls.old) rounds.old.items rounds.new.items).end
+        (settled_in circuit.now powers.now (machine_of at.old clock.old controls.old) rounds.old.items rounds.new.items).machine }
     // The solver was called once for each of these rounds, in order, and once more where it answered a fault.
     ensures calls { CallsAs (λ v. V.gives v (limits_of circuit.now.options)) (plant_of circuit.now powers.now.loads)
-        solver.old (begun circuit.now at.old clock.old) (appended rounds.old.items rounds.new.items) result
+        solver.old (machine_of at.old clock.old controls.old) (appended rounds.old.items rounds.new.items) result
         solver.new }
     ensures sound { AtEach (IsSoundAt circuit.now powers.now.loads) (plant_of circuit.now powers.now.loads)
-        (begun circuit.now at.old clock.old) (claims_in (appended rounds.old.items rounds.new.items)) }
+        (machine_of at.old clock.old controls.old) (claims_in (appended rounds.old.items rounds.new.items)) }
     // What the next hour starts with.
     ensures positions { ArePositions circuit.now powers.now.loads (positions_in at.new) }
     ensures clock { IsClock circuit.now clock.new }
+    ensures work { AreAtWork circuit.now at.new clock.new controls.new }
+    ensures few { (machine_of at.new clock.new controls.new).next ≤ (machine_of at.old clock.old controls.old).next + 2 ^ 25 }
     ensures built { IsBuiltOf net.new circuit.now }
 {
     count_law();
     let limits = limits_of(circuit.options());
-    let mut controls = Controls::start(alloc, circuit, net.layout(), clock)?;
     loop {
         // read for what a network is
         let _size = net.size();

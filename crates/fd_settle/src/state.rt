@@ -7,7 +7,7 @@ ghost use Rattle.fd_sample.specs.fd_queue.Verdicts.{decision, is_decided};
 ghost use Rattle.fd_sample.specs.Balls.{IsBall};
 ghost use Rattle.fd_sample.specs.Decided.{sample_of, sample_over};
 ghost use Rattle.fd_sample.specs.Probes.{HasDevice, IsProbe, positions_in};
-ghost use Rattle.fd_settle.specs.Acting.{CanAct, HasEarlyTimes, HasPlace, Reacts, act_of, acted_closed, acted_opened, acted_state, acted_taps, fresh, number_in, opened_for, with_verdict};
+ghost use Rattle.fd_settle.specs.Acting.{CanAct, HasEarlyTimes, HasPlace, Reacts, act_of, acted_closed, acted_opened, acted_state, acted_taps, fresh, number_in, opened_for, rested, with_verdict};
 ghost use Rattle.fd_settle.specs.Controls.{probe_in};
 ghost use Rattle.fd_settle.specs.Rounds.{seen};
 
@@ -53,6 +53,16 @@ impl ControlState {
         }
     }
 
+    /// Forgets its latest move.
+    pub(crate) fn forget_move(&mut self)
+        ensures { self.new ≡ rested self.old }
+    {
+        match self {
+            ControlState::Regulator { state, .. } => state.forget_move(),
+            ControlState::Bank { state, .. } => state.forget_move(),
+        }
+    }
+
     /// What the control measures, and how.
     pub(crate) fn probe(&self) -> Probe
         ensures { result ≡ probe_in self.now }
@@ -92,10 +102,11 @@ impl ControlState {
         }
     }
 
-    /// Moves its device by the latest verdict, where an entry of it acts, and gives the act.
+    /// Moves its device by the latest verdict, where an entry of it acts at this time, and gives the act.
     pub(crate) fn act(
         &mut self,
         entry: &Entry,
+        time: u64,
         taps: &mut [TapPair],
         closed: &mut [bool],
         opened: &mut [Option<u64>],
@@ -105,9 +116,9 @@ impl ControlState {
         requires within { All AreTaps taps.old }
         ensures taps { taps.new ≡ acted_taps self.old taps.old }
         ensures closed { closed.new ≡ acted_closed self.old closed.old }
-        ensures opened { opened.new ≡ acted_opened entry.now.time self.old opened.old }
-        ensures state { self.new ≡ acted_state entry.now.time self.old }
-        ensures act { seen result ≡ act_of self.old entry.now taps.old }
+        ensures opened { opened.new ≡ acted_opened time self.old opened.old }
+        ensures state { self.new ≡ acted_state time self.old }
+        ensures act { seen result ≡ act_of self.old time entry.now taps.old }
     {
         match self {
             ControlState::Regulator { probe, state } => {
@@ -115,25 +126,25 @@ impl ControlState {
                 let mut pair = taps[place];
                 let steps = state.act(&mut pair);
                 taps[place] = pair;
-                act_at(entry, steps, tap_of(probe.is_second, pair))
+                act_at(time, entry, steps, tap_of(probe.is_second, pair))
             }
             ControlState::Bank { probe, state } => {
                 let bank = probe.bank as usize;
                 let mut is_closed = closed[bank];
-                let steps = state.act(entry.time, &mut is_closed);
+                let steps = state.act(time, &mut is_closed);
                 closed[bank] = is_closed;
                 opened[bank] = state.opened();
-                act_at(entry, steps, u32::from(is_closed))
+                act_at(time, entry, steps, u32::from(is_closed))
             }
         }
     }
 }
 
-// The act of an entry.
-fn act_at(entry: &Entry, steps: i32, after: u32) -> Act
-    ensures { seen result ≡ record { time = entry.now.time; control = entry.now.control; steps = steps; after = after } }
+// The act of an entry at this time.
+fn act_at(time: u64, entry: &Entry, steps: i32, after: u32) -> Act
+    ensures { seen result ≡ record { time = time; control = entry.now.control; steps = steps; after = after } }
 {
-    let (time, control) = (entry.time, entry.control);
+    let (time, control) = (time, entry.control);
     Act {
         time,
         control,

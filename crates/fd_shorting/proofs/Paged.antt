@@ -69,3 +69,9 @@ pub at_last : (es : Elements) (place : ℕ) (entry : ElementName × Element) (ro
 at_last es place entry round here last =
     let there : slice_get es (last_place es) ≡ Some entry = subst (λ k. slice_get es k ≡ Some entry) last here in
     ap (λ (o : Option (ElementName × Element)). rows_of es o round) (sym there)
+
+-- a row has the same text
+pub same_rows : (rows : List (List (List ℕ)))
+    → flat_map report.texts_in (map row rows) ≡ flat_map short_report.texts_in (map row rows)
+same_rows [] = refl
+same_rows (r ∷ rows) = ap (λ (texts : List (List ℕ)). line_of r ∷ texts) (same_rows rows)

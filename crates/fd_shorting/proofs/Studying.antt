@@ -1,5 +1,5 @@
 -- Every settle of a short circuit is a study.
-use Rattle.std.proofs.Common.{◌≡◌, ◌∙◌, ℕ, ◌+◌, ◌≤◌, Bool, true, false, List, [], ◌∷◌, ◌++◌, Option, Some, None, Result, Ok, Err, slice_index_or, refl, sym, ap, subst, arith}
+use Rattle.std.proofs.Common.{◌≡◌, ◌∙◌, ℕ, ◌+◌, ◌≤◌, Bool, true, false, List, [], ◌∷◌, ◌++◌, map, Option, Some, None, Result, Ok, Err, slice_index_or, refl, sym, ap, subst, arith}
 use Rattle.std.proofs.lemmas.List.{append-nil}
 use Rattle.std.proofs.lemmas.List.Elements.{All-cons, All-nil}
 use Rattle.fd_fault.specs.dss_model.Names.{bytes, lower}
@@ -24,6 +24,7 @@ use Rattle.fd_solving.specs.fd_daily.Underway.{no_positions, plant_at}
 use Rattle.fd_solving.specs.fd_enclosure.Sound.{Claim}
 use Rattle.fd_solving.specs.fd_outside.Files.{held}
 use Rattle.fd_solving.specs.fd_pages.Hours.{Kept}
+use Rattle.fd_solving.specs.fd_pages.Pending.{pending_rows}
 use Rattle.fd_solving.specs.fd_queue.Controls.{Positions}
 use Rattle.fd_solving.specs.fd_queue.Machine.{Machine}
 use Rattle.fd_solving.specs.fd_settle.Plant.{Plant}
@@ -32,6 +33,7 @@ use Rattle.fd_solving.specs.fd_xfmr.Leakage.{AreTaps}
 use Rattle.fd_solving.specs.fd_outcome.Events as event
 use Rattle.fd_solving.specs.fd_outcome.Events.{AllSettles, Event, History, IfSettle, asked, row, settle}
 use Rattle.fd_solving.specs.fd_outcome.History.{IsHistory}
+use Rattle.fd_solving.specs.fd_outcome.Pages.{controls_of}
 use Rattle.fd_solving.specs.fd_outcome.Parts.{events_in}
 use Rattle.fd_solving.specs.fd_outcome.Settles.{Settle, SettleEnd, failed, settled, without_certificate}
 use Rattle.fd_solving.specs.fd_outcome.Work.{AfterStep, Step, ends, goes}
@@ -93,9 +95,15 @@ module _ (c : CircuitView) (linear : (hour : ℕ) (at : Positions) → IsLinear 
   settle_alone x step own is =
       subst (AllSettles IsOwn) (sym is) (All-cons (IfSettle IsOwn) (settle x) [] own (All-nil (IfSettle IsOwn)))
 
+  -- rows are no settles
+  rows_own : (rows : List (List (List ℕ))) → AllSettles IsOwn (map row rows)
+  rows_own [] = All-nil (IfSettle IsOwn)
+  rows_own (r ∷ rows) = All-cons (IfSettle IsOwn) (row r) (map row rows) tt (rows_own rows)
+
   hours_own : (hours : List ℕ) (l : Kept) (step : Step StandingView) → IsHoursStep c hours l step
       → AllSettles IsOwn (events_in step)
-  hours_own [] l step is = subst (AllSettles IsOwn) (sym (ap events_in is)) (All-nil (IfSettle IsOwn))
+  hours_own [] l step is =
+      subst (AllSettles IsOwn) (sym (ap events_in is)) (rows_own (pending_rows (controls_of c.elements) l.machine.queue))
   hours_own (hour ∷ hours) l step is =
       by is.made.end is.goes_on (λ more right. hours_own hours is.kept more right)
     where

@@ -16,8 +16,8 @@ ghost use Rattle.fd_shorting.specs.Pages.{last_place, line_bus, rows_at, rows_of
 
 use fd_fault::{Bus, Element};
 use fd_solving::{
-    Certified, Circuit, Layout, Page, Positions, Record, Report, Round, Solution, SolvedHour,
-    short_records,
+    Certified, Circuit, Entry, Layout, Page, Positions, Record, Report, Round, Solution,
+    SolvedHour, short_records,
 };
 use std::alloc::{AllocError, Global};
 
@@ -118,6 +118,14 @@ impl Page for ShortReport {
 
     fn bases(alloc: Global, circuit: &Circuit) -> Result<Vec<Record>, AllocError> {
         Report::bases(alloc, circuit)
+    }
+
+    fn pending(
+        alloc: Global,
+        circuit: &Circuit,
+        entries: &[Entry],
+    ) -> Result<Vec<Record>, AllocError> {
+        Report::pending(alloc, circuit, entries)
     }
 
     fn settled(

@@ -142,6 +142,12 @@ pub bases_silent : (style : Style) (bases : List BusBase)
 bases_silent style [] silent = tt
 bases_silent style (b ∷ bases) silent = (silent (base_fields b.bus b.kv), bases_silent style bases silent)
 
+pub rows_silent : (style : Style) (rows : List (List (List ℕ)))
+    → ((fields : List (List ℕ)) → style.asked_in (row fields) ≡ [])
+    → AllByRecursion (λ e. style.asked_in e ≡ []) (map row rows)
+rows_silent style [] silent = tt
+rows_silent style (r ∷ rows) silent = (silent r, rows_silent style rows silent)
+
 -- texts with what opens them
 pub opened_first : (first : List (List ℕ)) (texts : List (List ℕ)) → has_text (map writes texts) ≡ true
     → map writes (first ++ texts) ≡ opened first (map writes texts)

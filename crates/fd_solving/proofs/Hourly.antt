@@ -5,20 +5,21 @@ use Rattle.std.proofs.lemmas.List.{append_assoc, append-nil}
 use Rattle.std.proofs.lemmas.List.Sums.{fold-append}
 use Rattle.dss_commands.specs.dss_model.declared.command.Blame.{Blame}
 use Rattle.dss_commands.specs.dss_circuit.Circuit.{CircuitView}
-use Rattle.fd_daily.specs.Day.{DayView, hours_left, no_openings}
+use Rattle.fd_daily.specs.Day.{DayView, before_first, hours_left}
 use Rattle.fd_daily.specs.Hours.{hours_of}
 use Rattle.fd_pages.specs.fd_report.declared.faults.Cause.TheVariants as cause
 use Rattle.fd_pages.specs.fd_report.declared.faults.Fault.{Fault}
 use Rattle.fd_pages.specs.fd_report.declared.faults.Fault.TheVariants as fault
 use Rattle.fd_daily.specs.fd_devices.declared.settings.Positions.{Positions as CodePositions}
 use Rattle.fd_daily.specs.fd_queue.Controls.{Positions}
+use Rattle.fd_daily.specs.fd_queue.Machine.{Machine}
 use Rattle.fd_daily.specs.fd_sample.Probes.{positions_in}
 use Rattle.fd_daily.specs.fd_settle.Computed.{range, stopped}
 use Rattle.fd_daily.specs.fd_settle.declared.round.Round.{Round as Made}
 use Rattle.fd_pages.specs.fd_outcome.Behind.{behind, has_text}
 use Rattle.fd_pages.specs.fd_outcome.Calls.{Call, Style, body, calls_in, fault_text, opened, reads, writes}
 use Rattle.fd_pages.specs.fd_outcome.Done.{IsDone, IsFrontOf}
-use Rattle.fd_pages.specs.fd_outcome.Events.{Event, settle}
+use Rattle.fd_pages.specs.fd_outcome.Events.{Event, row, settle}
 use Rattle.fd_pages.specs.fd_outcome.Parts.{EndsAt, IsCutIn, Printed, Wrote, events_in, fault_doing}
 use Rattle.fd_pages.specs.fd_outcome.Settles.{Settle, SettleEnd, settled, failed, without_certificate}
 use Rattle.fd_pages.specs.fd_outcome.Way.{whole}
@@ -29,7 +30,10 @@ use Rattle.fd_solving.specs.Tallies.{tallied, tally_of, GoesOnTallied}
 use Rattle.fd_solving.specs.Printing.{EndsInHour, IsPrintedHour, begun_behind, fault_of, settle_calls}
 use Rattle.fd_daily.specs.Underway.{blame_first, plant_at, start_from}
 use Rattle.fd_pages.specs.Hours.{Kept, hour_settle}
-use Rattle.fd_solving.specs.Solving.{IsBehind, IsHour, IsHoursStep, IsSolutionStep, hour_begun, kept_by, kept_first}
+use Rattle.fd_pages.specs.Pending.{pending_events, pending_rows}
+use Rattle.fd_pages.specs.fd_outcome.Pages.{controls_of}
+use Rattle.fd_daily.proofs.CallerLemmas.{begun_at}
+use Rattle.fd_solving.specs.Solving.{IsBehind, IsHour, IsHoursStep, IsSolutionStep, begun_by, kept_by, kept_first}
 use Rattle.fd_solving.specs.Steps.{StandingView, behind_events, standing}
 use Rattle.fd_solving.specs.declared.faults.Failure.{Failure}
 use Rattle.fd_solving.specs.declared.tally.Tally.{Tally}
@@ -52,13 +56,22 @@ events_behind a (ends events f) = refl
 
 -- ---- calls
 
--- the calls of events, and then of a settle
+-- the calls of events, and then of more
+behind_all : (style : Style) (begun b : Bool) (events more : List Event) → b ≡ (begun || has_text (body style events))
+    → behind style begun events ++ behind style b more ≡ behind style begun (events ++ more)
+behind_all style begun b events more is =
+    ap (λ (t : Bool). behind style begun events ++ behind style t more) is ∙ sym (behind-append style begun events more)
+
+-- of a settle
 behind_more : (style : Style) (begun b : Bool) (events : List Event) (x : Settle)
     → b ≡ (begun || has_text (body style events))
     → behind style begun events ++ settle_calls style b x ≡ behind style begun (events ++ settle x ∷ [])
-behind_more style begun b events x is =
-    ap (λ (t : Bool). behind style begun events ++ behind style t (settle x ∷ [])) is
-    ∙ sym (behind-append style begun events (settle x ∷ []))
+behind_more style begun b events x is = behind_all style begun b events (settle x ∷ []) is
+
+-- rows add no round
+rows_added : (t : Tally) (rows : List (List (List ℕ))) → tally_of t (map row rows) ≡ t
+rows_added t [] = refl
+rows_added t (r ∷ rows) = rows_added t rows
 
 -- nothing of a settle without a text
 no_calls : (style : Style) (b : Bool) (x : Settle) → style.asked_in (settle x) ≡ [] → style.texts_in (settle x) ≡ []
@@ -230,18 +243,19 @@ module _ (style : Style) (c : CircuitView) (first : List ℕ) (l : Kept) {S : Ty
     -- the network with which it starts is out of range
     range_there : ((s : Settle) → style.asked_in (settle s) ≡ [])
         → ((s : Settle) (f : Fault) → s.rounds ≡ [] → s.end ≡ failed f → style.texts_in (settle s) ≡ []) →
-        (blame : Blame) → (plant_at c hour).blame k.at ≡ Some blame → (new : S) (code : ℕ)
+        (blame : Blame) → (plant_at c hour).blame k.machine.at ≡ Some blame → (new : S) (code : ℕ)
         → Printed taken calls now new true (fault_doing (fault.Script blame.place (cause.Model blame.cause))) code
         → EndsAt style IsFirst taken calls old new begun code
     range_there silent unshown blame here new code printed =
         let f : Fault = fault.Script blame.place (cause.Model blame.cause) in
-        let none : Settle = hour_settle c hour k [] (failed f) k.at in
+        let m = (begun_by c hour k).machine in
+        let none : Settle = hour_settle c hour (begun_by c hour k) [] (failed f) m.at in
         let nothing : settle_calls style b none ≡ [] = no_calls style b none (silent none) (unshown none f refl refl) in
-        way_failed hour left k now b t way none (kept_by k (hour_begun c hour k)) (record {
+        way_failed hour left k now b t way none (kept_by k m) (record {
           rounds = [];
           ending = stopped (range blame);
-          machine = hour_begun c hour k;
-          computed = (here, refl);
+          machine = m;
+          computed = (ap (λ (at : Positions). (plant_at c hour).blame at) (begun_at c hour k.machine) ∙ here, refl);
           end = failed f;
           end_is = refl;
           settle_is = refl;
@@ -255,28 +269,61 @@ module _ (style : Style) (c : CircuitView) (first : List ℕ) (l : Kept) {S : Ty
   pub way_range : ((s : Settle) → style.asked_in (settle s) ≡ [])
       → ((s : Settle) (f : Fault) → s.rounds ≡ [] → s.end ≡ failed f → style.texts_in (settle s) ≡ []) →
       (left : List ℕ) (k : Kept) (now : S) (b : Bool) (t : Tally) → HourWay left k now b t
-      → (blame : Blame) → blame_first c left k.at ≡ Some blame → (new : S) (code : ℕ)
+      → (blame : Blame) → blame_first c left k.machine.at ≡ Some blame → (new : S) (code : ℕ)
       → Printed taken calls now new true (fault_doing (fault.Script blame.place (cause.Model blame.cause))) code
       → EndsAt style IsFirst taken calls old new begun code
   way_range silent unshown [] k now b t way blame here new code printed = absurd (cc here)
   way_range silent unshown (hour ∷ left) k now b t way blame here new code printed =
       range_there hour left k now b t way silent unshown blame here new code printed
 
-  -- all hours are done
-  pub way_done : (left : List ℕ) (k : Kept) (now : S) (b : Bool) (t : Tally) → left ≡ [] → HourWay left k now b t
-      → GoesOnTallied style IsFirst (standing c k.at k.settled) taken calls old now begun b none_yet t
-  way_done left k now b t none way =
-      let last : Step StandingView = goes [] (standing c k.at k.settled) in
-      record {
-        on = record {
-          events = way.events;
-          right = subst (λ events. IsFirst (goes events (standing c k.at k.settled))) (append-nil way.events)
-              (way.leads last (subst (λ hours. IsHoursStep c hours k last) (sym none) refl));
-          wrote = way.wrote;
-          begun_is = way.begun_is;
-        };
-        added = way.added;
-      }
+  -- all hours are done, and the entries that still wait are printed
+  module _ (left : List ℕ) (k : Kept) (now : S) (b : Bool) (t : Tally) (none : left ≡ []) (way : HourWay left k now b t) where
+    abbrev waiting : List Event
+    waiting = pending_events c k.machine.queue
+
+    abbrev all : List Event
+    all = way.events ++ waiting
+
+    last_step : IsFirst (goes all (standing c k.machine.at k.settled))
+    last_step =
+        let step : Step StandingView = goes waiting (standing c k.machine.at k.settled) in
+        way.leads step (subst (λ hours. IsHoursStep c hours k step) (sym none) refl)
+
+    all_calls : behind style begun way.events ++ behind style b waiting ≡ behind style begun all
+    all_calls = behind_all style begun b way.events waiting way.begun_is
+
+    pub way_done : (new : S) (after : Bool) → Wrote taken calls now new (whole (behind style b waiting))
+        → after ≡ (b || has_text (body style waiting))
+        → GoesOnTallied style IsFirst (standing c k.machine.at k.settled) taken calls old new begun after none_yet t
+    way_done new after wrote now_begun = record {
+      on = record {
+        events = all;
+        right = last_step;
+        wrote = subst (λ cs. Wrote taken calls old new (whole cs)) all_calls
+            (wrote_then taken calls old now new (behind style begun way.events) (whole (behind style b waiting)) way.wrote wrote);
+        begun_is = now_begun ∙ ap (λ y. y || has_text (body style waiting)) way.begun_is ∙ text_behind style begun way.events waiting;
+      };
+      added = way.added
+          ∙ sym (rows_added (tally_of none_yet way.events) (pending_rows (controls_of c.elements) k.machine.queue))
+          ∙ sym (fold-append tallied none_yet way.events waiting);
+    }
+
+    -- or cut short
+    pub way_done_cut : (new : S) (code : ℕ) → IsCutIn taken calls now new (behind style b waiting) code
+        → EndsAt style IsFirst taken calls old new begun code
+    way_done_cut new code cut =
+        let made = made_after (behind style begun way.events) cut.made in
+        let done = front_then taken calls old now new (behind style begun way.events) (behind style b waiting) code way.wrote cut in
+        record {
+          step = goes all (standing c k.machine.at k.settled);
+          right = last_step;
+          made = made;
+          shown = all;
+          hidden = [];
+          events_are = sym (append-nil all);
+          done = inr (subst (λ cs. IsFrontOf cs code made) all_calls done.0);
+          wrote = done.1;
+        }
 
 -- ---- an hour as the code has it
 
@@ -292,14 +339,13 @@ pub first_step : (s : StandingView) (step : Step StandingView)
 unfolding IsSolutionStep
 first_step s step h = h
 
-pub solution_step : (c : CircuitView) (before : Positions) (n : ℕ) (at : CodePositions) (day : DayView)
-    → positions_in at ≡ start_from c before → day.opened ≡ no_openings c
+pub solution_step : (c : CircuitView) (before : Positions) (n : ℕ) (m : Machine) (at : CodePositions) (day : DayView)
+    → positions_in at ≡ start_from c before → m ≡ before_first c (positions_in at)
     → hours_left day ≡ hours_of c.options → (step : Step StandingView)
-    → IsHoursStep c (hours_left day) (kept_in at day n) step → IsSolutionStep (standing c before n) step
-solution_step c before n at day start opened left step h =
-    let kept : kept_in at day n ≡ kept_first (standing c before n) =
-    ap (λ (p : Positions). (let k : Kept = record { at = p; opened = day.opened; settled = n } in k)) start
-    ∙ ap (λ (o : List (Option ℕ)). (let k : Kept = record { at = start_from c before; opened = o; settled = n } in k)) opened in
+    → IsHoursStep c (hours_left day) (kept_in m n) step → IsSolutionStep (standing c before n) step
+solution_step c before n m at day start machine left step h =
+    let kept : kept_in m n ≡ kept_first (standing c before n) =
+    ap (λ (x : Machine). (let k : Kept = record { machine = x; settled = n } in k)) (machine ∙ ap (before_first c) start) in
     first_step (standing c before n) step
     (subst (λ (hs : List ℕ). IsHoursStep c hs (kept_first (standing c before n)) step) left
     (subst (λ (l : Kept). IsHoursStep c (hours_left day) l step) kept h))

@@ -15,7 +15,6 @@ use Rattle.fd_daily.specs.fd_inject.declared.fault.SolveFault.TheVariants as sol
 use Rattle.fd_daily.specs.fd_inject.declared.limits.Limits.{Limits}
 use Rattle.fd_daily.specs.fd_settings.Hours.{hour_powers}
 use Rattle.fd_daily.specs.fd_elements.declared.powers.LoadPower.{LoadPower}
-use Rattle.fd_daily.specs.fd_queue.Controls.{Positions}
 use Rattle.fd_daily.specs.fd_queue.Machine.{Act, Machine}
 use Rattle.fd_pages.specs.fd_report.Solutions.{IsOfSize}
 use Rattle.fd_daily.specs.fd_settle.Compute.{ComputeGives, IsPlaced}
@@ -41,7 +40,8 @@ use Rattle.fd_daily.specs.fd_cert.declared.ball.Certified.{Certified}
 use Rattle.fd_pages.specs.fd_report.declared.faults.Fault.{Fault}
 use Rattle.fd_solving.specs.Printing.{fault_of}
 use Rattle.fd_daily.specs.Underway.{plant_at}
-use Rattle.fd_solving.specs.Solving.{IsEndBy, IsHour, hour_begun, kept_by, rounds_of}
+use Rattle.fd_solving.specs.Solving.{IsEndBy, IsHour, begun_by, kept_by, rounds_of}
+use Rattle.fd_daily.proofs.CallerLemmas.{begun_made}
 use Rattle.fd_solving.proofs.Computations.{few_rounds}
 use Rattle.fd_solving.proofs.Solutions.{is_of_size, network_size}
 use Rattle.fd_solving.proofs.Tried.{IsTriedBy, sound_claim, tried_as, tried_claims}
@@ -126,14 +126,13 @@ within limits c powers v m rs fault.NoMemory w l is h = tt
 
 pub record IsMade (c : CircuitView) (powers : List LoadPower) (m : Machine) (rs : List Made)
     (result : Result (Unit {0}) (SettleFault ComputeFault)) (k : Kept) : Type 0 where
-  pub at_is : k.at ≡ (settled (plant_of c powers) m rs).machine.at
-  pub opened_is : k.opened ≡ (settled (plant_of c powers) m rs).machine.opened
+  pub left_is : k.machine ≡ (settled (plant_of c powers) m rs).machine
   pub ends : EndsAs (plant_of c powers) result (settled (plant_of c powers) m rs).end (settled (plant_of c powers) m rs).machine
   pub computed : EndsSo result (λ ending.
       IsComputedFrom (limits_of c.options) (plant_of c powers) m (computed_in rs) ending
       (settled (plant_of c powers) m rs).machine)
   pub sound : AtEach (IsSoundAt c powers) (plant_of c powers) m (claims_in rs)
-  pub positions : ArePositions c powers k.at
+  pub positions : ArePositions c powers k.machine.at
   pub tried : IsTriedBy (limits_of c.options) (plant_of c powers) result (settled (plant_of c powers) m rs).machine
 
 -- ---- the settle of an hour
@@ -141,7 +140,7 @@ pub record IsMade (c : CircuitView) (powers : List LoadPower) (m : Machine) (rs 
 module _ (c : CircuitView) (hour : ℕ) (l : Kept) (rs : List Made) (k : Kept) (ready : HasPassed c)
     (most : c.options.maxcontroliter ≤ 100) (count : k.settled ≡ l.settled + 1) where
   abbrev first : Machine
-  first = hour_begun c hour l
+  first = (begun_by c hour l).machine
 
   abbrev last : Machine
   last = (settled (plant_at c hour) first rs).machine
@@ -155,12 +154,13 @@ module _ (c : CircuitView) (hour : ℕ) (l : Kept) (rs : List Made) (k : Kept) (
   few : (ending : Ending) → EndsHere ending → length rs < 2 ^ 32
   few ending computed =
       let within : length (computed_in rs) + first.made ≤ c.options.maxcontroliter + 1 =
-      few_rounds (limits_of c.options) (plant_at c hour) first (computed_in rs) ending last (omega arith) computed in
+      few_rounds (limits_of c.options) (plant_at c hour) first (computed_in rs) ending last
+      (omega (arith, begun_made c hour l.machine)) computed in
       let as_computed : Made → Claim × List Act = λ r. (claim_in r.certified, map seen r.acts.items) in
       omega (arith, within, most, length-map rs as_computed)
 
   printable : (result : Result (Unit {0}) (SettleFault ComputeFault)) (ending : Ending) → MadeHere result
-      → EndsHere ending → IsPrintable c hour rs k.at
+      → EndsHere ending → IsPrintable c hour rs k.machine.at
   printable result ending made computed = record {
     ready = ready;
     numbers = all_of_size c hour first rs made.sound;
@@ -169,14 +169,14 @@ module _ (c : CircuitView) (hour : ℕ) (l : Kept) (rs : List Made) (k : Kept) (
     few = few ending computed;
   }
 
-  same_kept : (machine : Machine) → k.at ≡ machine.at → k.opened ≡ machine.opened → k ≡ kept_by l machine
-  same_kept machine at_is opened_is =
-      let made : Positions → List (Option ℕ) → ℕ → Kept = λ at opened settled_so. record { at = at; opened = opened; settled = settled_so } in
-      ap (λ x. made x k.opened k.settled) at_is ∙ ap (λ x. made machine.at x k.settled) opened_is ∙ ap (λ x. made machine.at machine.opened x) count
+  same_kept : (machine : Machine) → k.machine ≡ machine → k ≡ kept_by l machine
+  same_kept machine left_is =
+      let made : Machine → ℕ → Kept = λ m settled_so. record { machine = m; settled = settled_so } in
+      ap (λ x. made x k.settled) left_is ∙ ap (λ x. made machine x) count
 
   hour_by : (result : Result (Unit {0}) (SettleFault ComputeFault)) (ending : Ending) (end : SettleEnd)
       → MadeHere result → EndsHere ending → IsEndBy c hour ending last end
-      → IsHour c hour l (settle_made c hour l rs end k.at) k
+      → IsHour c hour l (settle_made c hour (begun_by c hour l) rs end k.machine.at) k
   hour_by result ending end made computed is = record {
     rounds = computed_in rs;
     ending = ending;
@@ -184,9 +184,9 @@ module _ (c : CircuitView) (hour : ℕ) (l : Kept) (rs : List Made) (k : Kept) (
     computed = computed;
     end = end;
     end_is = is;
-    settle_is = ap (λ (x : List Round). hour_settle c hour l x end k.at) (sym (same_rounds rs))
-        ∙ ap (λ (at : Positions). hour_settle c hour l (rounds_of (computed_in rs)) end at) made.at_is;
-    kept = same_kept last made.at_is made.opened_is;
+    settle_is = ap (λ (x : List Round). hour_settle c hour (begun_by c hour l) x end k.machine.at) (sym (same_rounds rs))
+        ∙ ap (λ (m : Machine). hour_settle c hour (begun_by c hour l) (rounds_of (computed_in rs)) end m.at) made.left_is;
+    kept = same_kept last made.left_is;
   }
 
   pub ended_well : (done : Unit {0}) → MadeHere (Ok done) → IsMadeHour c hour l rs None k

@@ -19,27 +19,29 @@ use Rattle.fd_daily.specs.fd_enclosure.Sound.{Claim}
 use Rattle.fd_daily.specs.fd_enclosure.Ties.{BallLaw, TieLaw}
 use Rattle.fd_daily.specs.fd_queue.Controls.{Positions}
 use Rattle.fd_daily.specs.fd_queue.Machine.{Act, Machine}
-use Rattle.fd_daily.proofs.CallerLemmas.fd_settle.{none_early}
+use Rattle.fd_daily.proofs.CallerLemmas.fd_settle.{hour_can_start, none_early, solve_can_start}
 use Rattle.fd_daily.specs.fd_settle.Compute.{IsComputed}
 use Rattle.fd_daily.specs.fd_settle.Computed.{Ending, Follows, IsComputedFrom}
 use Rattle.fd_daily.specs.fd_settle.Contract.{limits_of}
 use Rattle.fd_daily.specs.fd_settle.KeptRounds.{AreKept, CanStart, KeptRoundsLaw}
 use Rattle.fd_daily.specs.fd_settle.Numbers.{AreActNumbers}
-use Rattle.fd_daily.specs.fd_settle.Plant.{Plant, blame_at, network_at, settings_at, setup_of}
+use Rattle.fd_daily.specs.fd_settle.Plant.{Plant, blame_at, network_at, settings_at, setup_of, timing_of}
 use Rattle.fd_daily.specs.fd_settle.Rounds.{AtEach, left_by}
 use Rattle.fd_daily.specs.fd_settle.Settle.{Ends, Moves, Outcome, outcome_of}
 use Rattle.fd_daily.specs.fd_settle.Start.{ArePositions, IsSoundAt}
-use Rattle.fd_daily.specs.Day.{no_openings}
+use Rattle.fd_daily.specs.Day.{before_first, no_openings, resumed}
 use Rattle.fd_daily.specs.Hours.{hours_of, time_of}
 use Rattle.fd_daily.specs.Underway.{plant_at, start_from}
-use Rattle.fd_daily.proofs.CallerLemmas.{all_hours}
-use Rattle.fd_pages.specs.fd_outcome.Events.{AllSettles, IfSettle, settle}
+use Rattle.fd_daily.proofs.CallerLemmas.{all_hours, begun_made}
+use Rattle.fd_pages.specs.fd_outcome.Events.{AllSettles, IfSettle, row, settle}
+use Rattle.fd_pages.specs.fd_outcome.Pages.{controls_of}
 use Rattle.fd_pages.specs.fd_outcome.Parts.{events_in}
 use Rattle.fd_pages.specs.fd_outcome.Settles.{Round, Settle, SettleEnd, claim_in, failed, round_of, settled, without_certificate}
 use Rattle.fd_pages.specs.fd_outcome.Work.{Step, ends, goes}
 use Rattle.fd_pages.specs.Hours.{Kept, hour_settle}
+use Rattle.fd_pages.specs.Pending.{pending_rows}
 use Rattle.fd_solving.specs.Headline.{DecidesAlike, HasModestNumbers, IsSolution, IsSolved, hour_network}
-use Rattle.fd_solving.specs.Solving.{IsBehind, IsHour, IsHoursStep, IsSolutionStep, hour_begun, kept_first, rounds_of}
+use Rattle.fd_solving.specs.Solving.{IsBehind, IsHour, IsHoursStep, IsSolutionStep, begun_by, kept_first, rounds_of}
 use Rattle.fd_solving.specs.Steps.{StandingView, behind_events, standing}
 use Rattle.fd_solving.proofs.Computations.{few_rounds}
 use Rattle.fd_solving.proofs.Points.{solution_point}
@@ -129,17 +131,17 @@ module _ (laws : Laws) (c : CircuitView) (ready : HasPassed c) (circuit : IsWith
 
   -- ---- its settle
 
-  module _ (l : Kept) (start : CanStart c powers l.at (time_of hour) l.opened) (number : l.settled + 1 < 2 ^ 32)
+  module _ (l : Kept) (start : CanStart c powers (begun_by c hour l).machine) (number : l.settled + 1 < 2 ^ 32)
       (within : hour ≤ 8760) (x : Settle) (k : Kept) (is : IsHour c hour l x k) where
     abbrev first : Machine
-    first = hour_begun c hour l
+    first = (begun_by c hour l).machine
 
     abbrev claims : List Claim
     claims = claims_in is.rounds
 
     kept_here : AreKept c powers first is.rounds is.machine
     kept_here =
-        laws.kept c powers l.at (time_of hour) l.opened (limits_of c.options) is.rounds is.ending is.machine ready circuit
+        laws.kept c powers first (limits_of c.options) is.rounds is.ending is.machine ready circuit
         start is.computed
 
     sound : AtEach (IsSoundAt c powers) plant first claims
@@ -156,12 +158,13 @@ module _ (laws : Laws) (c : CircuitView) (ready : HasPassed c) (circuit : IsWith
     few : length (rounds_of is.rounds) < 2 ^ 32
     few =
         let most : length is.rounds + first.made ≤ c.options.maxcontroliter + 1 =
-        few_rounds (limits_of c.options) plant first is.rounds is.ending is.machine (omega arith) is.computed in
+        few_rounds (limits_of c.options) plant first is.rounds is.ending is.machine
+        (omega (arith, begun_made c hour l.machine)) is.computed in
         let limit = circuit.options_in_range.maxcontroliter in
         omega (arith, most, limit, length-map is.rounds (λ r. round_of r.0 r.1))
 
     abbrev made : Settle
-    made = hour_settle c hour l (rounds_of is.rounds) is.end is.machine.at
+    made = hour_settle c hour (begun_by c hour l) (rounds_of is.rounds) is.end is.machine.at
 
     modest : HasModestNumbers made
     modest = record { number = number; hour = omega (arith, within); few = few; acts = numbers_same is.rounds kept_here.acts }
@@ -177,33 +180,28 @@ module _ (laws : Laws) (c : CircuitView) (ready : HasPassed c) (circuit : IsWith
     pub settle_solved : IsSolved x
     settle_solved = subst IsSolved (sym is.settle_is) made_solved
 
-    pub leaves : CanStart c powers k.at (time_of hour) k.opened
-    leaves = subst (λ (q : Kept). CanStart c powers q.at (time_of hour) q.opened) (sym is.kept) (record {
-      positions = kept_here.left.positions;
-      now = start.now;
-      each = kept_here.left.each;
-      early = kept_here.left.early;
-    })
+    pub leaves : CanStart c powers k.machine
+    leaves = subst (λ (q : Kept). CanStart c powers q.machine) (sym is.kept) kept_here.left
 
 -- ---- all hours
 
 -- with what one hour can start, another can
-another : HoursLaw → (c : CircuitView) (others : List LoadPower) (at : Positions) (time hour : ℕ) (opened : List (Option ℕ))
-    → hour ≤ 8760 → CanStart c others at time opened
-    → CanStart c (hour_powers c.elements hour) at (time_of hour) opened
-another law c others at time hour opened within h = record {
-  positions = record {
-    counts = record {
-      taps = h.positions.counts.taps;
-      closed = h.positions.counts.closed;
-      powers = (law c.elements).count hour;
-    };
-    taps = h.positions.taps;
-  };
-  now = omega (arith, within);
-  each = h.each;
-  early = h.early;
-}
+another : HoursLaw → (c : CircuitView) (others : List LoadPower) (m : Machine) (hour : ℕ)
+    → hour ≤ 8760 → CanStart c others m → CanStart c (hour_powers c.elements hour) (resumed c hour m)
+another law c others m hour within h =
+    hour_can_start (timing_of c.options.controlmode) c others (hour_powers c.elements hour) m (time_of hour) h (record {
+      counts = record {
+        taps = h.positions.counts.taps;
+        closed = h.positions.counts.closed;
+        powers = (law c.elements).count hour;
+      };
+      taps = h.positions.taps;
+    }) (omega (arith, within))
+
+-- rows are no settles
+rows_solved : (rows : List (List (List ℕ))) → AllSettles IsSolved (map row rows)
+rows_solved [] = All-nil (IfSettle IsSolved)
+rows_solved (r ∷ rows) = All-cons (IfSettle IsSolved) (row r) (map row rows) tt (rows_solved rows)
 
 -- what a Solve leaves where the run goes on
 abbrev pub LeavesTaps : CircuitView → ℕ → Step StandingView → Type 0
@@ -238,15 +236,15 @@ behind_settle c most x (without_certificate r f) rest step good is go =
     settle_last c most x step good (ap events_in is) (subst (LeavesTaps c most) (sym is) tt)
 
 module _ (laws : Laws) (c : CircuitView) (ready : HasPassed c) (circuit : IsWithinLimits c.elements c.options) where
-  hours_solved : (others : List LoadPower) (time : ℕ) (hours : List ℕ) (l : Kept) (step : Step StandingView)
+  hours_solved : (others : List LoadPower) (hours : List ℕ) (l : Kept) (step : Step StandingView)
       → AllByRecursion (λ hour. hour ≤ 8760) hours → l.settled + length hours < 2 ^ 32
-      → CanStart c others l.at time l.opened → IsHoursStep c hours l step
+      → CanStart c others l.machine → IsHoursStep c hours l step
       → IsSolvedStep c (l.settled + length hours) step
-  hours_solved others time [] l step within room h is =
+  hours_solved others [] l step within room h is =
       subst (IsSolvedStep c (l.settled + 0)) (sym is)
-      (record { solved = All-nil (IfSettle IsSolved); left = (refl, (h.positions.taps, omega arith)) })
-  hours_solved others time (hour ∷ hours) l step within room h is =
-      let start = another laws.hours c others l.at time hour l.opened within.0 h in
+      (record { solved = rows_solved (pending_rows (controls_of c.elements) l.machine.queue); left = (refl, (h.positions.taps, omega arith)) })
+  hours_solved others (hour ∷ hours) l step within room h is =
+      let start = another laws.hours c others l.machine hour within.0 h in
       let good = settle_solved laws c ready circuit hour l start (omega (arith, room)) within.0 is.made is.kept is.is in
       let left = leaves laws c ready circuit hour l start (omega (arith, room)) within.0 is.made is.kept is.is in
       let count : is.kept.settled ≡ l.settled + 1 = ap (λ (q : Kept). q.settled) is.is.kept in
@@ -255,26 +253,21 @@ module _ (laws : Laws) (c : CircuitView) (ready : HasPassed c) (circuit : IsWith
       is.goes_on
       (λ more right.
       subst (λ n. IsSolvedStep c n more) same
-      (hours_solved (hour_powers c.elements hour) (time_of hour) hours is.kept more within.1 (omega (arith, room, same)) left
+      (hours_solved (hour_powers c.elements hour) hours is.kept more within.1 (omega (arith, room, same)) left
       right))
 
   first_hour : (before : Positions) → All AreTaps before.taps
-      → CanStart c (hour_powers c.elements 0) (start_from c before) 0 (no_openings c)
+      → CanStart c (hour_powers c.elements 0) (before_first c (start_from c before))
   first_hour before taps =
       let next = laws.next c.solves c.elements before.taps before.closed in
-      record {
-        positions = record {
-          counts = record {
-            taps = next.counts.taps;
-            closed = next.counts.closed;
-            powers = (laws.hours c.elements).count 0;
-          };
-          taps = next.within circuit.elements_in_range taps;
+      solve_can_start c (hour_powers c.elements 0) (start_from c before) 0 (no_openings c) (record {
+        counts = record {
+          taps = next.counts.taps;
+          closed = next.counts.closed;
+          powers = (laws.hours c.elements).count 0;
         };
-        now = omega arith;
-        each = length-replicate _ None;
-        early = none_early _;
-      }
+        taps = next.within circuit.elements_in_range taps;
+      }) (omega arith) (length-replicate _ None) (none_early _)
 
   -- all hours of a Solve
   pub solution_solved : (before : Positions) (n : ℕ) (step : Step StandingView) → All AreTaps before.taps
@@ -284,7 +277,7 @@ module _ (laws : Laws) (c : CircuitView) (ready : HasPassed c) (circuit : IsWith
       let hours = all_hours c.options circuit.options_in_range in
       let few = hours.few in
       let done =
-      hours_solved (hour_powers c.elements 0) 0 (hours_of c.options) (kept_first (standing c before n)) step hours.each
+      hours_solved (hour_powers c.elements 0) (hours_of c.options) (kept_first (standing c before n)) step hours.each
       (omega (arith, room, few)) (first_hour before taps) is in
       record { solved = done.solved; left = most_left (n + length (hours_of c.options)) (n + 8761) step (omega (arith, few)) done.left }
     where

@@ -60,6 +60,7 @@ decided_each k (p ∷ ps) f g ds each is =
 part_taken : (mode : ControlMode) (P : Probe → Type 0) (ps : List Probe) → All P ps → All P (taking_part mode ps)
 part_taken control_mode.Off P ps h = λ i x lt. absurd (omega (arith, lt))
 part_taken control_mode.Static P ps h = h
+part_taken control_mode.Time P ps h = h
 
 -- ---- any state that solves a round
 

@@ -37,7 +37,9 @@ use Rattle.fd_pages.specs.Bases.{base_events}
 use Rattle.fd_solving.specs.Commands.{Applied, bases_left, nothing_left, solve_left, refused_at, IsByTests, IsStep, IsStepOf, IsTested, tried}
 use Rattle.fd_daily.specs.Underway.{plant_at}
 use Rattle.fd_pages.specs.Hours.{Kept, hour_settle}
-use Rattle.fd_solving.specs.Solving.{IsBehind, IsEndBy, IsHour, IsHourStep, IsHoursStep, IsSolutionStep, hour_begun, kept_by, kept_first, rounds_of, tried_round, undecided_at, unknown_of}
+use Rattle.fd_daily.proofs.CallerLemmas.{begun_made}
+use Rattle.fd_pages.specs.Pending.{pending_events}
+use Rattle.fd_solving.specs.Solving.{IsBehind, IsEndBy, IsHour, IsHourStep, IsHoursStep, IsSolutionStep, begun_by, kept_by, kept_first, rounds_of, tried_round, undecided_at, unknown_of}
 use Rattle.fd_solving.specs.Steps.{StandingView, behind_events, changes, refuses, standing}
 use Rattle.fd_solving.proofs.Computations.{IsTold, is_told}
 
@@ -215,14 +217,14 @@ one_behind x (failed f) rest one = exactly_this (ends (settle x ∷ []) f)
 one_behind x (without_certificate r f) rest one = exactly_this (ends (settle x ∷ []) f)
 
 module _ (c : CircuitView) (hour : ℕ) (l : Kept)
-    (one : HasOneComputation (limits_of c.options) (plant_at c hour) (hour_begun c hour l)) where
+    (one : HasOneComputation (limits_of c.options) (plant_at c hour) (begun_by c hour l).machine) where
   abbrev only_end : ExactlyOne (IsEndBy c hour one.some.ending one.some.machine)
   only_end =
       one_end c hour one.some.ending one.some.machine (is_told (limits_of c.options) (plant_at c hour)
-      (hour_begun c hour l) one.some.rounds one.some.ending one.some.machine one.is)
+      (begun_by c hour l).machine one.some.rounds one.some.ending one.some.machine one.is)
 
   abbrev only_settle : Settle
-  only_settle = hour_settle c hour l (rounds_of one.some.rounds) only_end.some one.some.machine.at
+  only_settle = hour_settle c hour (begun_by c hour l) (rounds_of one.some.rounds) only_end.some one.some.machine.at
 
   abbrev only_kept : Kept
   only_kept = kept_by l one.some.machine
@@ -252,8 +254,8 @@ module _ (c : CircuitView) (hour : ℕ) (l : Kept)
     same_settle : x ≡ only_settle
     same_settle =
         h.settle_is
-        ∙ ap (λ (m : Computation). hour_settle c hour l (rounds_of m.rounds) h.end m.machine.at) same
-        ∙ ap (λ (e : SettleEnd). hour_settle c hour l (rounds_of one.some.rounds) e one.some.machine.at) same_end
+        ∙ ap (λ (m : Computation). hour_settle c hour (begun_by c hour l) (rounds_of m.rounds) h.end m.machine.at) same
+        ∙ ap (λ (e : SettleEnd). hour_settle c hour (begun_by c hour l) (rounds_of one.some.rounds) e one.some.machine.at) same_end
 
     same_kept : k ≡ only_kept
     same_kept = h.kept ∙ ap (λ (m : Computation). kept_by l m.machine) same
@@ -271,10 +273,10 @@ module _ (c : CircuitView) (hour : ℕ) (l : Kept)
 
 -- the hours of a Solve come to exactly one thing
 pub one_hours : (c : CircuitView) (hours : List ℕ) (l : Kept) → ExactlyOne (IsHoursStep c hours l)
-one_hours c [] l = exactly_this (goes [] (standing c l.at l.settled))
+one_hours c [] l = exactly_this (goes (pending_events c l.machine.queue) (standing c l.machine.at l.settled))
 one_hours c (hour ∷ hours) l =
     one_hour c hour l
-    (has_one_computation (limits_of c.options) (plant_at c hour) (hour_begun c hour l) (omega arith))
+    (has_one_computation (limits_of c.options) (plant_at c hour) (begun_by c hour l).machine (omega (arith, begun_made c hour l.machine)))
     (λ k step. IsHoursStep c hours k step) (λ k. one_hours c hours k)
 
 pub one_solution : (s : StandingView) → ExactlyOne (IsSolutionStep s)

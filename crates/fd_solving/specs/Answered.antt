@@ -6,20 +6,18 @@ use Rattle.dss_commands.specs.dss_model.declared.command.Verb.{Verb}
 use Rattle.dss_commands.specs.dss_model.declared.command.Verb.TheVariants as verb
 use Rattle.dss_commands.specs.dss_circuit.Circuit.{CircuitView}
 use Rattle.fd_daily.specs.dss_ready.Ready.{HasPassed, IsToBlame}
-use Rattle.fd_daily.specs.Day.{DayView}
-use Rattle.fd_daily.specs.fd_devices.declared.settings.Positions.{Positions as CodePositions}
 use Rattle.fd_daily.specs.fd_queue.Controls.{Positions}
+use Rattle.fd_daily.specs.fd_queue.Machine.{Machine}
 use Rattle.fd_pages.specs.fd_report.declared.faults.Cause.TheVariants as cause
 use Rattle.fd_pages.specs.fd_report.declared.faults.Fault.{Fault}
 use Rattle.fd_pages.specs.fd_report.declared.faults.Fault.TheVariants as fault
-use Rattle.fd_daily.specs.fd_sample.Probes.{positions_in}
 use Rattle.fd_daily.specs.fd_settle.declared.round.Round.{Round as Made}
 use Rattle.fd_pages.specs.fd_outcome.Work.{Step, ends, goes}
 use Rattle.fd_pages.specs.Bases.{base_events}
 use Rattle.fd_pages.specs.Hours.{IsPrintable, IsTriedOf, Kept, settle_made}
 use Rattle.fd_solving.specs.Commands.{Applied, IsStepOf, bases_left, nothing_left, refused_at, solve_left}
 use Rattle.fd_solving.specs.Endings.{end_by}
-use Rattle.fd_solving.specs.Solving.{IsHour, IsSolutionStep}
+use Rattle.fd_solving.specs.Solving.{IsHour, IsSolutionStep, begun_by}
 use Rattle.fd_solving.specs.Steps.{StandingView, changes, standing}
 use Rattle.fd_solving.specs.declared.answer.Answer.{Answer}
 use Rattle.fd_solving.specs.declared.faults.Failure.{Failure}
@@ -76,8 +74,8 @@ solves_of other = 0
 -- ---- an hour
 
 -- what is kept from hour to hour
-abbrev pub kept_in : CodePositions → DayView → ℕ → Kept
-kept_in at day settled = record { at = positions_in at; opened = day.opened; settled = settled }
+abbrev pub kept_in : Machine → ℕ → Kept
+kept_in m settled = record { machine = m; settled = settled }
 
 abbrev pub IsFailureOfCommand : Option Failure → Type 0
 IsFailureOfCommand None = Unit {0}
@@ -90,7 +88,7 @@ IsFailureOf size (Some x) = IsTriedOf size x.tried
 -- An hour was made: its settle is the hour's, its rounds can be printed, and a failure is one of a command.
 pub record IsMadeHour (c : CircuitView) (hour : ℕ) (l : Kept) (rounds : List Made) (x : Option Failure)
     (k : Kept) : Type 0 where
-  pub is : IsHour c hour l (settle_made c hour l rounds (end_by x) k.at) k
-  pub printable : IsPrintable c hour rounds k.at
+  pub is : IsHour c hour l (settle_made c hour (begun_by c hour l) rounds (end_by x) k.machine.at) k
+  pub printable : IsPrintable c hour rounds k.machine.at
   pub tried : IsFailureOf (size_of (layout_of c.elements)) x
   pub command : IsFailureOfCommand x

@@ -10,7 +10,6 @@ use Rattle.fd_daily.specs.fd_system.Meets.{Meets}
 use Rattle.fd_daily.specs.fd_system.Residual.{whole_state}
 use Rattle.fd_daily.specs.fd_equations.Enclosure.{addend_count}
 use Rattle.fd_daily.specs.fd_pattern.Views.{NetworkView}
-use Rattle.fd_daily.specs.Hours.{time_of}
 use Rattle.fd_daily.specs.fd_settings.Hours.{hour_powers}
 use Rattle.fd_daily.specs.fd_devices.Scripted.{circuit_parts}
 use Rattle.fd_daily.specs.fd_enclosure.Encloses.{IsImpedance}
@@ -25,7 +24,7 @@ use Rattle.fd_daily.specs.fd_sample.Balls.{IsInBall}
 use Rattle.fd_pages.specs.fd_report.Solutions as printed
 use Rattle.fd_daily.specs.fd_settle.Contract.{limits_of}
 use Rattle.fd_daily.specs.fd_settle.Numbers.{AreActNumbers}
-use Rattle.fd_daily.specs.fd_settle.Plant.{controls_in, network_at, settings_at, started}
+use Rattle.fd_daily.specs.fd_settle.Plant.{controls_in, network_at, settings_at}
 use Rattle.fd_daily.specs.fd_settle.Rounds.{AtEach}
 use Rattle.fd_daily.specs.fd_settle.Sampling.{Decided, look_at, look_over}
 use Rattle.fd_pages.specs.fd_outcome.Settles.{Round, Settle, claim_in}
@@ -135,7 +134,7 @@ abbrev pub claims_of : Settle → List Claim
 claims_of s = map claim_in s.rounds
 
 abbrev pub machine_of : Settle → Machine
-machine_of s = started s.circuit s.start (time_of s.hour) s.opened
+machine_of s = s.begun
 
 -- each round is a solution of its circuit at the hour and at the positions that the acts before it left
 abbrev pub AreSolutions : Settle → Type 0

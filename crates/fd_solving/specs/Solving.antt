@@ -8,8 +8,8 @@ use Rattle.dss_commands.specs.dss_model.declared.names.Class.TheVariants as clas
 use Rattle.dss_commands.specs.dss_model.declared.names.ElementName.{ElementName}
 use Rattle.fd_pages.specs.dss_layout.Layout.{layout_of}
 use Rattle.dss_commands.specs.dss_circuit.Circuit.{CircuitView}
-use Rattle.fd_daily.specs.Day.{no_openings}
-use Rattle.fd_daily.specs.Hours.{hours_of, time_of}
+use Rattle.fd_daily.specs.Day.{before_first, resumed}
+use Rattle.fd_daily.specs.Hours.{hours_of}
 use Rattle.fd_daily.specs.Underway.{plant_at, start_from}
 use Rattle.fd_daily.specs.fd_cert.Claims.{tried_claim}
 use Rattle.fd_daily.specs.fd_enclosure.Sound.{Claim, loose, uncertain}
@@ -22,7 +22,6 @@ use Rattle.fd_daily.specs.fd_sample.Decided.{Undecided}
 use Rattle.fd_daily.specs.fd_settle.Computed.{Ending, ended, stopped, IsComputedFrom, range, uncertified}
 use Rattle.fd_daily.specs.fd_settle.Computed as computed
 use Rattle.fd_daily.specs.fd_settle.Contract.{limits_of}
-use Rattle.fd_daily.specs.fd_settle.Plant.{started}
 use Rattle.fd_daily.specs.fd_settle.Settle.{Open, Settled, Limited, Undecidable}
 use Rattle.fd_pages.specs.fd_report.Names.{name_at}
 use Rattle.fd_pages.specs.fd_report.declared.faults.Cause.TheVariants as cause
@@ -35,21 +34,22 @@ use Rattle.fd_pages.specs.fd_outcome.Pages.{controls_of}
 use Rattle.fd_pages.specs.fd_outcome.Settles.{Round, Settle, SettleEnd, round_of, settled, failed, without_certificate}
 use Rattle.fd_pages.specs.fd_outcome.Work.{Step, goes, ends}
 use Rattle.fd_pages.specs.Hours.{Kept, hour_settle}
+use Rattle.fd_pages.specs.Pending.{pending_events}
 use Rattle.fd_solving.specs.Steps.{StandingView, behind_events, standing}
 
 -- ---- the machine
 
--- an hour starts at its time with an empty queue
-abbrev pub hour_begun : CircuitView → ℕ → Kept → Machine
-hour_begun c hour l = started c l.at (time_of hour) l.opened
+-- with what an hour begins, by what was kept
+abbrev pub begun_by : CircuitView → ℕ → Kept → Kept
+begun_by c hour l = record l { machine = resumed c hour l.machine }
 
 -- what an hour's machine leaves to the next
 abbrev pub kept_by : Kept → Machine → Kept
-kept_by l m = record { at = m.at; opened = m.opened; settled = l.settled + 1 }
+kept_by l m = record { machine = m; settled = l.settled + 1 }
 
--- a Solve starts with no bank opened yet
+-- a Solve starts with an empty queue, and no bank opened yet
 abbrev pub kept_first : StandingView → Kept
-kept_first s = record { at = start_from s.circuit s.at; opened = no_openings s.circuit; settled = s.settled }
+kept_first s = record { machine = before_first s.circuit (start_from s.circuit s.at); settled = s.settled }
 
 -- ---- faults
 
@@ -124,10 +124,10 @@ pub record IsHour (c : CircuitView) (hour : ℕ) (l : Kept) (x : Settle) (k : Ke
   pub rounds : List (Claim × List Act)
   pub ending : Ending
   pub machine : Machine
-  pub computed : IsComputedFrom (limits_of c.options) (plant_at c hour) (hour_begun c hour l) rounds ending machine
+  pub computed : IsComputedFrom (limits_of c.options) (plant_at c hour) (begun_by c hour l).machine rounds ending machine
   pub end : SettleEnd
   pub end_is : IsEndBy c hour ending machine end
-  pub settle_is : x ≡ hour_settle c hour l (rounds_of rounds) end machine.at
+  pub settle_is : x ≡ hour_settle c hour (begun_by c hour l) (rounds_of rounds) end machine.at
   pub kept : k ≡ kept_by l machine
 
 -- ---- the hours
@@ -152,9 +152,9 @@ pub record IsHourStep (c : CircuitView) (hour : ℕ) (l : Kept) (rest : Kept →
   pub is : IsHour c hour l made kept
   pub goes_on : IsBehind made made.end (rest kept) step
 
--- the hours that are left, one after the other, from what was kept
+-- the hours that are left, one after the other, from what was kept; behind the last one the entries that still wait
 abbrev pub IsHoursStep : CircuitView → List ℕ → Kept → Step StandingView → Type 0
-IsHoursStep c [] l step = step ≡ goes [] (standing c l.at l.settled)
+IsHoursStep c [] l step = step ≡ goes (pending_events c l.machine.queue) (standing c l.machine.at l.settled)
 IsHoursStep c (hour ∷ hours) l step = IsHourStep c hour l (λ k s. IsHoursStep c hours k s) step
 
 -- all hours of the Solve

@@ -1,10 +1,11 @@
 // One hour of a Solve.
-ghost use Rattle.std.specs.Prelude.{◌≡◌, ℕ, ◌+◌, ◌^◌, ◌<◌, IfOk, is_none};
+ghost use Rattle.std.specs.Prelude.{◌≡◌, ℕ, ◌+◌, ◌^◌, ◌<◌, IfOk, IfSome, None, is_none};
 ghost use Rattle.fd_daily.specs.dss_ready.Ready.{HasPassed};
-ghost use Rattle.fd_daily.specs.Day.{IsDayOf, hour_in, hours_done, hours_left};
-ghost use Rattle.fd_daily.specs.Underway.{IsUnderway};
+ghost use Rattle.fd_daily.specs.Day.{IsDay, MayBegin, hour_in, hours_done, hours_left};
+ghost use Rattle.fd_daily.specs.Underway.{IsUnderway, machine_in};
 ghost use Rattle.fd_daily.specs.fd_network.Built.{IsBuiltOf};
 ghost use Rattle.fd_daily.specs.fd_sample.Probes.{positions_in};
+ghost use Rattle.fd_daily.specs.fd_settle.Controls.{AreAtWork};
 ghost use Rattle.fd_daily.specs.fd_settle.Start.{ArePositions};
 ghost use Rattle.fd_solving.specs.Answered.{IsMadeHour, kept_in};
 
@@ -24,11 +25,13 @@ pub(crate) fn solve_hour(
     requires ready { HasPassed circuit.now }
     requires underway { IsUnderway circuit.now at.old underway.old }
     ensures made { (n : ℕ) → n + 1 < 2 ^ 32 → IfOk result (λ f. IsMadeHour circuit.now (hour_in underway.old.day)
-        (kept_in at.old underway.old.day n) underway.new.rounds.items f (kept_in at.new underway.new.day (n + 1))) }
+        (kept_in (machine_in at.old underway.old) n) underway.new.rounds.items f (kept_in (machine_in at.new underway.new) (n + 1))) }
     ensures left { IfOk result (λ f. hours_left underway.old.day ≡ hours_done (is_none f) (hour_in underway.old.day) (hours_left underway.new.day)) }
     ensures positions { ArePositions circuit.now underway.new.powers.loads (positions_in at.new) }
-    ensures day { IsDayOf circuit.now underway.new.day }
+    ensures day { IsDay underway.new.day }
     ensures built { IsBuiltOf underway.new.net circuit.now }
+    ensures work { AreAtWork circuit.now at.new underway.new.clock underway.new.controls }
+    ensures numbers { IfOk result (λ f. f ≡ None → IfSome underway.new.day.hour (λ k. MayBegin k (machine_in at.new underway.new).next)) }
 {
     // read for what the elements are, and how many acts are allowed
     let _elements = circuit.elements();

@@ -3,7 +3,7 @@ ghost use Rattle.std.specs.Prelude.{◌≡◌, ◌+◌, ◌^◌, ◌<◌, ◌≤
 ghost use Rattle.fd_pages.specs.fd_outside.Causes.{Rose};
 ghost use Rattle.fd_daily.specs.dss_ready.Ready.{HasPassed};
 ghost use Rattle.fd_daily.specs.Day.{hour_in, hours_left};
-ghost use Rattle.fd_daily.specs.Underway.{IsLeftBehind, IsUnderway};
+ghost use Rattle.fd_daily.specs.Underway.{IsLeftBehind, IsUnderway, machine_in};
 ghost use Rattle.fd_daily.specs.fd_sample.Probes.{positions_in};
 ghost use Rattle.fd_daily.specs.fd_settle.Start.{ArePositions};
 ghost use Rattle.fd_daily.specs.fd_xfmr.Leakage.{AreTaps};
@@ -18,7 +18,7 @@ ghost use Rattle.fd_solving.specs.Steps.{standing};
 
 use crate::answer::refused;
 use crate::hour::solve_hour;
-use crate::print::{WANT_OF_MEMORY, print_failed, print_fault, print_settled};
+use crate::print::{WANT_OF_MEMORY, print_failed, print_fault, print_pending, print_settled};
 use crate::tally::Tally;
 use dss_commands::{Blame, Circuit};
 use fd_daily::{BuildFault, Positions, Underway};
@@ -106,10 +106,10 @@ fn do_hour<P: Page, S: Sink>(
     requires room { HasRoom tally.old settled.old }
     ensures goes { result ≡ None
         → IsPrintedHour P.style S.taken S.calls out.old out.new begun.old circuit.now (hour_in underway.old.day)
-        (kept_in at.old underway.old.day settled.old) (kept_in at.new underway.new.day settled.new) begun.new
+        (kept_in (machine_in at.old underway.old) settled.old) (kept_in (machine_in at.new underway.new) settled.new) begun.new
         tally.old tally.new }
     ensures ends { IfSome result (EndsInHour P.style S.taken S.calls out.old out.new begun.old circuit.now
-        (hour_in underway.old.day) (kept_in at.old underway.old.day settled.old)) }
+        (hour_in underway.old.day) (kept_in (machine_in at.old underway.old) settled.old)) }
     ensures left { result ≡ None → IsLeftBehind circuit.now at.new underway.old underway.new }
     ensures positions { ArePositions circuit.now underway.new.powers.loads (positions_in at.new) }
     ensures settles { settled.new ≤ settled.old + 1 }
@@ -144,7 +144,7 @@ fn do_hour<P: Page, S: Sink>(
     }
 }
 
-// Solves and prints the hours that are left.
+// Solves and prints the hours that are left, and behind the last one the entries that still wait in the queue.
 fn run_hours<P: Page, S: Sink>(
     alloc: Global,
     circuit: &Circuit,
@@ -161,11 +161,11 @@ fn run_hours<P: Page, S: Sink>(
     requires room { HasRoom tally.old settled.old }
     ensures goes { result ≡ None
         → GoesOnTallied P.style
-        (IsHoursStep circuit.now (hours_left underway.old.day) (kept_in at.old underway.old.day settled.old))
+        (IsHoursStep circuit.now (hours_left underway.old.day) (kept_in (machine_in at.old underway.old) settled.old))
         (standing circuit.now (positions_in at.new) settled.new) S.taken S.calls out.old out.new begun.old begun.new
         tally.old tally.new }
     ensures ends { IfSome result (EndsAt P.style
-        (IsHoursStep circuit.now (hours_left underway.old.day) (kept_in at.old underway.old.day settled.old)) S.taken
+        (IsHoursStep circuit.now (hours_left underway.old.day) (kept_in (machine_in at.old underway.old) settled.old)) S.taken
         S.calls out.old out.new begun.old) }
     ensures taps { All AreTaps at.new.taps }
     ensures settles { settled.new ≤ settled.old + 8761 }
@@ -182,7 +182,7 @@ fn run_hours<P: Page, S: Sink>(
             return ended;
         }
         if underway.day.next_hour().is_none() {
-            return None;
+            return print_pending::<P, S>(alloc, circuit, underway.controls.pending(), begun, out);
         }
         match underway.next_network(alloc, circuit, at) {
             Ok(()) => {}

@@ -53,7 +53,8 @@ pub use tally::Tally;
 pub use dss_commands::{Circuit, Command, ModelError, Text, apply, limits_law};
 pub use fd_daily::{BankStates, Positions, Rule, Taps};
 pub use fd_pages::{
-    Cause, CertFileFault, Certificate, Certified, Fault, Found, Layout, LibFault, Library, Mode,
-    Page, Record, Report, Round, Session, Sink, Solution, SolvedHour, Summary, accepted_record,
-    read_law, said_law, said_room_law, short_records, size_text, status_law, upgrade,
+    Cause, CertFileFault, Certificate, Certified, Entry, Fault, Found, Layout, LibFault, Library,
+    Mode, Page, Record, Report, Round, Session, Sink, Solution, SolvedHour, Summary,
+    accepted_record, read_law, said_law, said_room_law, short_records, size_text, status_law,
+    upgrade,
 };

@@ -12,13 +12,14 @@ ghost use Rattle.fd_pages.specs.fd_outcome.Way.{whole};
 ghost use Rattle.fd_pages.specs.fd_outcome.Settles.{settled};
 ghost use Rattle.fd_pages.specs.Hours.{IsPrintable, IsTriedOf, settle_made, end_with, Kept};
 ghost use Rattle.fd_pages.specs.Bases.{base_events};
+ghost use Rattle.fd_pages.specs.Pending.{pending_events};
 ghost use Rattle.fd_solving.specs.Endings.{end_by};
 ghost use Rattle.fd_solving.specs.Printing.{begun_behind, settle_calls};
 
 use crate::faults::Failure;
 use dss_commands::Circuit;
 use fd_daily::{Certified, Positions};
-use fd_pages::{Fault, Page, Record, Sink, SinkFault, SolvedHour, emit, record, status};
+use fd_pages::{Entry, Fault, Page, Record, Sink, SinkFault, SolvedHour, emit, record, status};
 use std::alloc::{AllocError, Global};
 
 /// The exit status where memory runs out.
@@ -129,6 +130,28 @@ pub(crate) fn print_bases<P: Page, S: Sink>(
 {
     P::law();
     let Ok(texts) = P::bases(alloc, circuit) else {
+        return Some(WANT_OF_MEMORY);
+    };
+    print_texts::<P, S>(alloc, texts, begun, out)
+}
+
+/// Prints the entries that wait in the queue behind the last hour of a Solve. An answer ends the run. `begun` tells whether
+/// a text was written before.
+pub(crate) fn print_pending<P: Page, S: Sink>(
+    alloc: Global,
+    circuit: &Circuit,
+    entries: &[Entry],
+    begun: &mut bool,
+    out: &mut S,
+) -> Option<u8>
+    ensures goes { IfNone result (Wrote S.taken S.calls out.old out.new (whole (behind P.style begun.old (pending_events circuit.now entries.now)))) }
+    ensures begun { result ≡ None → begun.new ≡ (begun.old || has_text (body P.style (pending_events circuit.now entries.now))) }
+    ensures ends { IfSome result (IsCutIn S.taken S.calls out.old out.new (behind P.style begun.old (pending_events circuit.now entries.now))) }
+    ensures later { S.faults out.old ≤ S.faults out.new }
+    ensures write { IfSome result (λ code. code ≡ 5 → Rose (S.faults out.old) (S.faults out.new)) }
+{
+    P::law();
+    let Ok(texts) = P::pending(alloc, circuit, entries) else {
         return Some(WANT_OF_MEMORY);
     };
     print_texts::<P, S>(alloc, texts, begun, out)

@@ -1,9 +1,9 @@
-use Rattle.std.proofs.Common.{◌≡◌, ◌∙◌, ℕ, List, [], drop, length, map, refl, sym, ap, subst}
+use Rattle.std.proofs.Common.{◌≡◌, ◌∙◌, ℕ, List, [], drop, length, map, true, Result, Ok, Err, refl, sym, ap, subst}
+use Rattle.std.specs.Prelude.{OnOk, is_ok}
 use Rattle.dss_commands.specs.dss_circuit.Circuit.{CircuitView}
-use Rattle.fd_daily.specs.fd_sample.Probes.{positions_in}
 use Rattle.fd_daily.specs.fd_settle.declared.round.Round.{Round}
 use Rattle.fd_daily.specs.Day.{begun_hour, hour_in, hours_left, hours_done}
-use Rattle.fd_daily.specs.Underway.{plant_at}
+use Rattle.fd_daily.specs.Underway.{machine_in, plant_at}
 use Rattle.fd_certfile.specs.Reader.{ReaderView}
 use Rattle.fd_check.specs.Checking.{Checking}
 use Rattle.fd_check.specs.Comes.{Comes, Leads, Tells}
@@ -13,6 +13,11 @@ use Rattle.fd_check.specs.Hours.{behind_hour, first_round, hour_open}
 use Rattle.fd_check.proofs.Judged.{IsRun, are_given, hour_goes, hour_refused, on_well}
 use Rattle.fd_check.proofs.Way.{each_err, each_ok}
 use Rattle.fd_check.proofs.hours.check_hour.Goals as goal
+
+-- what holds where a settle ended well
+on_ok : {T F : Type 0} (r : Result T F) (P : Type 0) → is_ok r ≡ true → OnOk r P → P
+on_ok (Ok t) P well h = h
+on_ok (Err f) P well h = absurd (cc)
 
 -- the reader before the hour's settle, which it was told of
 begun_by : (r begun : ReaderView) (number hour h : ℕ) → begun ≡ record r { number = number; hour = hour; round = 0 }
@@ -24,7 +29,7 @@ begun_is : (c : goal.After-judge_hour)
 begun_is c = begun_by c.args.reader.now c.begin.new.self c.args.number c.hour-hour.result (hour_in c.args.underway.now.day) c.begin.ensures c.hour-hour.ensures
 
 run_is : (c : goal.After-judge_hour)
-    → IsRun (plant_at c.args.circuit.now (hour_in c.args.underway.now.day)) (begun_hour c.args.circuit.now c.args.at.now c.args.underway.now.day)
+    → IsRun (plant_at c.args.circuit.now (hour_in c.args.underway.now.day)) (begun_hour c.args.circuit.now c.args.underway.now.day (machine_in c.args.at.now c.args.underway.now))
     c.daily_run-ended.new.underway.rounds.items c.daily_run-ended.result c.begin.new.self c.daily_run-ended.new.solver
 run_is c = let e = c.daily_run-ended.ensures in record { acts = e.acts; ends = e.ends; calls = e.calls }
 
@@ -55,7 +60,7 @@ judge_hour-requires c =
     let ended = c.daily_run-ended.result in
     let begun = begun_by c.args.reader.now r c.args.number c.hour-hour.result (hour_in day) c.begin.ensures c.hour-hour.ensures in
     let given : AreGiven ended (length r.given) (length rounds) (length w.given) =
-    are_given c.certificate_law.ensures (first_round circuit c.args.at.now day c.args.number [] []) r w
+    are_given c.certificate_law.ensures (first_round circuit day (machine_in c.args.at.now c.args.underway.now) c.args.number [] []) r w
     (ap (λ (k : ReaderView). k.number) begun) (ap (λ (k : ReaderView). k.hour) begun) (ap (λ (k : ReaderView). k.round) begun) rounds ended
     (record { acts = e.acts; ends = e.ends; calls = e.calls }) in
     subst (λ (n : ℕ). AreGiven ended n (length c.deref.result.now) (length w.given)) (sym c.given-first.ensures)
@@ -68,11 +73,11 @@ returns-clause-goes c hours =
     let n = c.daily_run-ended.new in
     let e = c.daily_run-ended.ensures in
     let r = c.args.reader.now in
-    let before : List CircuitView → Checking = hour_open circuit c.args.at.now day c.args.number hours in
-    let behind : List CircuitView → Checking = behind_hour circuit n.at n.underway.day c.args.number hours in
+    let before : List CircuitView → Checking = hour_open circuit day (machine_in c.args.at.now c.args.underway.now) c.args.number hours in
+    let behind : List CircuitView → Checking = behind_hour circuit (machine_in n.at n.underway) c.args.number hours in
     each_ok c.judge_hour.result (λ (more : List CircuitView). Leads r (before more) n.solver (behind more))
-    (λ more. hour_goes c.certificate_law.ensures (first_round circuit c.args.at.now day c.args.number hours more) r c.begin.new.self n.solver (begun_is c) refl
-    n.underway.rounds.items c.daily_run-ended.result (run_is c) c.judge_hour.result (told_is c) (positions_in n.at) n.underway.day.opened e.at e.opened)
+    (λ more. hour_goes c.certificate_law.ensures (first_round circuit day (machine_in c.args.at.now c.args.underway.now) c.args.number hours more) r c.begin.new.self n.solver (begun_is c) refl
+    n.underway.rounds.items c.daily_run-ended.result (run_is c) c.judge_hour.result (told_is c) (machine_in n.at n.underway) e.machine)
 
 pub returns-clause-refused : goal.returns-clause-refused
 returns-clause-refused c hours =
@@ -80,9 +85,9 @@ returns-clause-refused c hours =
     let day = c.args.underway.now.day in
     let n = c.daily_run-ended.new in
     let r = c.args.reader.now in
-    let before : List CircuitView → Checking = hour_open circuit c.args.at.now day c.args.number hours in
+    let before : List CircuitView → Checking = hour_open circuit day (machine_in c.args.at.now c.args.underway.now) c.args.number hours in
     each_err c.judge_hour.result (λ (more : List CircuitView) e. Tells e (Comes r (before more))) (λ more.
-    hour_refused c.certificate_law.ensures (first_round circuit c.args.at.now day c.args.number hours more) r
+    hour_refused c.certificate_law.ensures (first_round circuit day (machine_in c.args.at.now c.args.underway.now) c.args.number hours more) r
     c.begin.new.self n.solver (begun_is c) refl n.underway.rounds.items c.daily_run-ended.result
     (run_is c) c.judge_hour.result (told_is c))
 
@@ -92,8 +97,7 @@ returns-clause-left c =
     let e = c.daily_run-ended.ensures in
     on_well c.daily_run-ended.new.solver c.daily_run-ended.result _ c.judge_hour.result _ (told_is c)
     (λ well. record {
-      positions = e.positions;
-      day = e.day;
-      built = e.built;
+      after_hour = record { positions = e.positions; day = e.day; built = e.built; work = e.work };
       left = e.left ∙ ap (λ t. hours_done t (hour_in day) (hours_left c.daily_run-ended.new.underway.day)) well;
+      numbers = on_ok c.daily_run-ended.result _ well e.numbers;
     })

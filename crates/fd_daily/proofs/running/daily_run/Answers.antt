@@ -1,45 +1,113 @@
-use Rattle.std.proofs.Common.{◌≡◌, ◌∙◌, ℕ, List, [], Option, Result, ap, subst}
-use Rattle.fd_daily.specs.Day.{begun_hour, hour_in}
+use Rattle.std.proofs.Common.{◌≡◌, ◌∙◌, ◌+◌, ◌*◌, ◌≤◌, ◌<◌, ◌^◌, ℕ, ap, arith, subst, sym}
+use Rattle.fd_daily.specs.Day.{MayBegin, begun_hour, hour_in}
 use Rattle.fd_daily.specs.Hours.{time_of}
-use Rattle.fd_daily.specs.Underway.{plant_at}
-use Rattle.fd_daily.proofs.Behind.{left_behind}
-use Rattle.fd_settle.specs.fd_enclosure.Sound.{Claim}
-use Rattle.fd_settings.specs.fd_pattern.Views.{NetworkView}
-use Rattle.fd_settings.specs.fd_elements.declared.powers.LoadPower.{LoadPower}
-use Rattle.fd_settle.specs.fd_queue.Machine.{Machine}
-use Rattle.fd_settle.specs.fd_sample.Probes.{positions_in}
-use Rattle.fd_settle.specs.Contract.{CallsAs, appended, begun, limits_of}
-use Rattle.fd_settle.specs.Plant.{Plant, plant_of, started}
-use Rattle.fd_settle.specs.declared.fault.SettleFault.{SettleFault}
-use Rattle.fd_settle.specs.declared.round.Round.{Round}
+use Rattle.fd_daily.specs.Underway.{machine_in}
+use Rattle.fd_daily.proofs.Behind.{begun_numbers, day_behind, left_behind, may_begin}
+use Rattle.fd_daily.proofs.CallerLemmas.{hour_within}
+use Rattle.fd_daily.proofs.Settles.{IsSettled, begun_there, settled_there}
+use Rattle.fd_settings.specs.Hours.{hour_powers}
+use Rattle.fd_settle.specs.fd_queue.Machine.{Machine, hour_begun}
+use Rattle.fd_settle.specs.fd_queue.declared.timing.Timing.{Timing}
+use Rattle.fd_settle.specs.Contract.{limits_of}
+use Rattle.fd_settle.specs.Controls.{AreAtWork, machine_of}
+use Rattle.fd_settle.specs.Plant.{timing_of}
+use Rattle.fd_daily.proofs.running.daily_run.Goals.{After-begin_hour, After-settle-ended}
 use Rattle.fd_daily.proofs.running.daily_run.Goals as goal
 
-calls_by : {V T F : Type 0} (gives : V → NetworkView → Result Claim F → V → Type 0) (p q : Plant) (v w : V)
-    (m n : Machine) (old rounds : List Round) (result : Result T (SettleFault F))
-    → p ≡ q → m ≡ n → old ≡ [] → CallsAs gives p v m (appended old rounds) result w
-    → CallsAs gives q v n rounds result w
-calls_by gives p q v w m n old rounds result plant machine none h =
-    subst (λ (xs : List Round). CallsAs gives q v n (appended xs rounds) result w) none
-    (subst (λ (k : Machine). CallsAs gives q v k (appended old rounds) result w) machine
-    (subst (λ (x : Plant). CallsAs gives x v m (appended old rounds) result w) plant h))
+-- ---- the hour begins
+
+begun : (g : _) (c : After-begin_hour g) → machine_of c.args.at.now c.begin_hour.new.clock c.begin_hour.new.self
+    ≡ begun_hour c.args.circuit.now c.args.underway.now.day (machine_in c.args.at.now c.args.underway.now)
+begun g c =
+    begun_there c.args.circuit.now c.args.underway.now.day (machine_in c.args.at.now c.args.underway.now) _ _ _ _
+    (c.begin_hour.ensures.machine c.args.at.now) c.requires.underway.work.timing c.time_of.ensures c.hour-hour.ensures
+
+work : (g : _) (c : After-begin_hour g)
+    → AreAtWork c.args.circuit.now c.args.at.now c.begin_hour.new.clock c.begin_hour.new.self
+work g c = c.begin_hour.ensures.work c.args.circuit.now c.args.at.now c.requires.underway.work
+
+numbers : (g : _) (c : After-begin_hour g) → MayBegin (hour_in c.args.underway.now.day)
+    (machine_of c.args.at.now c.begin_hour.new.clock c.begin_hour.new.self).next
+numbers g c = subst (λ (m : Machine). MayBegin (hour_in c.args.underway.now.day) m.next) (sym (begun g c))
+    (begun_numbers (timing_of c.args.circuit.now.options.controlmode) (time_of (hour_in c.args.underway.now.day))
+    (machine_in c.args.at.now c.args.underway.now) (hour_in c.args.underway.now.day) c.requires.underway.numbers)
+
+pub begin_hour-requires : goal.begin_hour-requires
+begin_hour-requires g c =
+    let hour = hour_within c.args.underway.now.day c.requires.underway.day in
+    omega (arith, c.time_of.ensures, c.hour-hour.ensures, hour)
+
+pub settle-ended-requires-clause-clock : goal.settle-ended-requires-clause-clock
+settle-ended-requires-clause-clock g c =
+    let keeps = (work g (goal.at.settle-ended-requires-clause-clock g c).After-begin_hour).keeps in
+    record { now = keeps.now; each = keeps.opened_each ∙ c.requires.underway.positions.counts.closed; early = keeps.early }
+
+pub settle-ended-requires-clause-work : goal.settle-ended-requires-clause-work
+settle-ended-requires-clause-work g c = work g (goal.at.settle-ended-requires-clause-work g c).After-begin_hour
+
+pub settle-ended-requires-clause-numbers : goal.settle-ended-requires-clause-numbers
+settle-ended-requires-clause-numbers g c =
+    let few = numbers g (goal.at.settle-ended-requires-clause-numbers g c).After-begin_hour in
+    let hour = hour_within c.args.underway.now.day c.requires.underway.day in
+    omega (arith, few, hour)
+
+-- ---- the hour is settled
+
+made : (g : _) (c : After-settle-ended g)
+    → IsSettled (λ v. g.V.Solver.gives v (limits_of c.args.circuit.now.options)) c.args.circuit.now
+    (hour_powers c.args.circuit.now.elements (hour_in c.args.underway.now.day)) c.args.solver.now c.settle-ended.new.solver
+    (begun_hour c.args.circuit.now c.args.underway.now.day (machine_in c.args.at.now c.args.underway.now))
+    (machine_of c.settle-ended.new.at c.settle-ended.new.clock c.settle-ended.new.controls)
+    c.settle-ended.new.rounds.items c.settle-ended.result
+made g c =
+    settled_there (λ v. g.V.Solver.gives v (limits_of c.args.circuit.now.options)) c.args.circuit.now
+    c.args.underway.now.powers.loads (hour_powers c.args.circuit.now.elements (hour_in c.args.underway.now.day))
+    c.args.solver.now c.settle-ended.new.solver
+    (machine_of c.args.at.now c.begin_hour.new.clock c.begin_hour.new.self)
+    (begun_hour c.args.circuit.now c.args.underway.now.day (machine_in c.args.at.now c.args.underway.now))
+    (machine_of c.settle-ended.new.at c.settle-ended.new.clock c.settle-ended.new.controls)
+    c.clear.new.self.items c.settle-ended.new.rounds.items c.settle-ended.result c.requires.underway.powers
+    (begun_there c.args.circuit.now c.args.underway.now.day (machine_in c.args.at.now c.args.underway.now) _ _ _ _
+    (c.begin_hour.ensures.machine c.args.at.now) c.requires.underway.work.timing c.time_of.ensures c.hour-hour.ensures)
+    c.clear.ensures.items (record {
+      acts = c.settle-ended.ensures.acts;
+      machine = c.settle-ended.ensures.machine;
+      ends = c.settle-ended.ensures.ends;
+      calls = c.settle-ended.ensures.calls;
+      sound = c.settle-ended.ensures.sound;
+    })
+
+pub returns-clause-acts : goal.returns-clause-acts
+returns-clause-acts g c = (made g (goal.at.returns-clause-acts g c).After-settle-ended).acts
+
+pub returns-clause-machine : goal.returns-clause-machine
+returns-clause-machine g c = (made g (goal.at.returns-clause-machine g c).After-settle-ended).machine
+
+pub returns-clause-ends : goal.returns-clause-ends
+returns-clause-ends g c = (made g (goal.at.returns-clause-ends g c).After-settle-ended).ends
 
 pub returns-clause-calls : goal.returns-clause-calls
-returns-clause-calls g c =
-    let circuit = c.args.circuit.now in
-    let day = c.args.underway.now.day in
-    let at = c.args.at.now in
-    let clock = c.take_clock-clock.result in
-    let machine : begun circuit at clock ≡ begun_hour circuit at day =
-    ap (λ (t : ℕ). started circuit (positions_in at) t clock.opened.items) (c.take_clock-clock.ensures.now ∙ ap time_of c.hour-hour.ensures)
-    ∙ ap (λ (o : List (Option ℕ)). started circuit (positions_in at) (time_of (hour_in day)) o) c.take_clock-clock.ensures.opened in
-    calls_by (λ v. g.V.Solver.gives v (limits_of circuit.options)) (plant_of circuit c.args.underway.now.powers.loads)
-    (plant_at circuit (hour_in day)) c.args.solver.now c.settle-ended.new.solver (begun circuit at clock)
-    (begun_hour circuit at day) c.clear.new.self.items c.settle-ended.new.rounds.items c.settle-ended.result
-    (ap (λ (loads : List LoadPower). plant_of circuit loads) c.requires.underway.powers) machine c.clear.ensures.items
-    c.settle-ended.ensures.calls
+returns-clause-calls g c = (made g (goal.at.returns-clause-calls g c).After-settle-ended).calls
+
+pub returns-clause-sound : goal.returns-clause-sound
+returns-clause-sound g c = (made g (goal.at.returns-clause-sound g c).After-settle-ended).sound
+
+-- ---- what comes behind it
 
 pub returns-clause-left : goal.returns-clause-left
 returns-clause-left g c =
-    left_behind c.args.circuit.now c.args.underway.now.day c.take_clock-clock.new.self c.keep.new.self _ c.is_ok.result c.hour-hour.result
-    c.requires.underway.day c.requires.underway.hour c.hour-hour.ensures c.take_clock-clock.ensures.hour c.take_clock-clock.ensures.last
-    c.keep.ensures.hour c.keep.ensures.last c.is_ok.ensures.value
+    left_behind c.args.underway.now.day c.end_hour.new.self _ c.is_ok.result c.hour-hour.result
+    c.requires.underway.day c.requires.underway.hour c.hour-hour.ensures
+    c.end_hour.ensures.hour c.end_hour.ensures.last c.is_ok.ensures.value
+
+pub returns-clause-day : goal.returns-clause-day
+returns-clause-day g c =
+    day_behind c.args.underway.now.day c.end_hour.new.self c.is_ok.result c.hour-hour.result c.requires.underway.day
+    c.end_hour.ensures.hour c.end_hour.ensures.last
+
+pub returns-clause-numbers : goal.returns-clause-numbers
+returns-clause-numbers g c =
+    let few = numbers g (goal.at.returns-clause-numbers g c).After-begin_hour in
+    may_begin c.args.underway.now.day c.end_hour.new.self c.settle-ended.result c.is_ok.result c.hour-hour.result
+    (machine_of c.settle-ended.new.at c.settle-ended.new.clock c.settle-ended.new.controls).next c.is_ok.ensures.value
+    c.end_hour.ensures.hour (omega (arith, few, c.settle-ended.ensures.few, c.hour-hour.ensures))

@@ -27,13 +27,13 @@ loop-entry-preserved c =
     ap (map seen) pushed ∙ map_push seen c.loop-entry.acts.items c.act-act.result in
     record {
       acting = subst (λ (xs : List Act).
-          IsActing c.args.due.now (c.loop-entry.entry-index + 1) c.args.taps.now c.act-act.new.taps c.args.closed.now
+          IsActing c.args.timing c.args.now c.args.due.now (c.loop-entry.entry-index + 1) c.args.taps.now c.act-act.new.taps c.args.closed.now
           c.act-act.new.closed c.args.opened.now c.act-act.new.opened c.args.states.now
           (set c.loop-entry.states e.control c.act-act.new.self) xs)
-          (sym made) (next_acted c.args.due.now c.loop-entry.entry-index _ c.loop-entry.taps _ _ c.loop-entry.closed
+          (sym made) (next_acted c.args.timing c.args.now c.acts_at-time.result c.args.due.now c.loop-entry.entry-index _ c.loop-entry.taps _ _ c.loop-entry.closed
           _ _ c.loop-entry.opened _ _ c.loop-entry.states _ nothing c.index-states-entry.result c.act-act.new.self
           (seen c.act-act.result) c.loop-entry.invariant.acting c.loop-entry-test.true c.requires.one_each
-          c.requires.controls c.requires.openings c.act-act.ensures.taps c.act-act.ensures.closed
+          c.requires.controls c.requires.openings c.requires.now c.acts_at-time.ensures c.act-act.ensures.taps c.act-act.ensures.closed
           c.act-act.ensures.opened c.act-act.ensures.state c.act-act.ensures.act);
       capacity = search rules;
     }
@@ -41,7 +41,7 @@ loop-entry-preserved c =
 pub returns-clause-acts : goal.returns-clause-acts
 returns-clause-acts c = record {
   machine = λ limit m.
-      all_acted_machine c.args.due.now c.loop-entry.entry-index limit _ _ _ _ _ _ _ _ _ m
+      all_acted_machine c.args.timing c.args.now c.args.due.now c.loop-entry.entry-index limit _ _ _ _ _ _ _ _ _ m
       c.loop-entry.invariant.acting c.loop-entry-test.false;
-  acts = λ limit m. all_acted_acts c.args.due.now c.loop-entry.entry-index limit _ _ _ _ _ _ _ _ _ m c.loop-entry.invariant.acting c.loop-entry-test.false;
+  acts = λ limit m. all_acted_acts c.args.timing c.args.now c.args.due.now c.loop-entry.entry-index limit _ _ _ _ _ _ _ _ _ m c.loop-entry.invariant.acting c.loop-entry-test.false;
 }

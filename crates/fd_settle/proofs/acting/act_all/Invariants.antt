@@ -5,6 +5,6 @@ use Rattle.fd_settle.proofs.acting.act_all.Given as goal
 
 abbrev pub invariant-loop-entry : goal.invariant-loop-entry
 invariant-loop-entry l = record {
-  acting : IsActing l.due l.entry-index l.fn.taps l.taps l.fn.closed l.closed l.fn.opened l.opened l.fn.states l.states (map seen l.acts.items);
+  acting : IsActing l.timing l.now l.due l.entry-index l.fn.taps l.taps l.fn.closed l.closed l.fn.opened l.opened l.fn.states l.states (map seen l.acts.items);
   capacity : vec_capacity l.fn.acts ≤ vec_capacity l.acts;
 }

@@ -1,24 +1,22 @@
-use Rattle.std.proofs.Common.{rules, ◌≡◌, ◌++◌, ◌∷◌, [], List, length, Ok, Err, refl, sym, ap, subst, ◌∙◌}
+use Rattle.std.proofs.Common.{arith, rules, ◌≡◌, ◌++◌, ◌∷◌, [], List, length, Ok, Err, refl, sym, ap, subst, ◌∙◌}
 use Rattle.std.proofs.lemmas.Result.{err_from_is_err_and}
 use Rattle.fd_cert.specs.Claims.{claim_in}
 use Rattle.fd_sample.specs.Probes.{positions_in}
 use Rattle.fd_settle.specs.declared.progress.Progress.{Progress}
 use Rattle.fd_settle.specs.declared.round.Round.{Round}
-use Rattle.fd_settle.specs.Contract.{begun, limits_of}
-use Rattle.fd_settle.specs.Controls.{AreControls, HasNumbers}
+use Rattle.fd_settle.specs.Contract.{limits_of}
+use Rattle.fd_settle.specs.Controls.{AreControls, HasNumbers, machine_of}
 use Rattle.fd_settle.specs.Settle.{Open}
-use Rattle.fd_settle.proofs.Underway.{IsStep, IsUnderway, ball_of, centre_long, end_by, fewer_left, goes_on, no_end, numbers_kept, over_memory, over_refused, over_solver, over_told, stepped_positions, underway_first, underway_more, updated}
+use Rattle.fd_settle.proofs.Underway.{IsStep, IsUnderway, ball_of, centre_long, end_by, few_numbers, fewer_left, goes_on, no_end, numbers_kept, over_memory, over_refused, over_solver, over_told, stepped_positions, underway_first, underway_more, updated}
 use Rattle.fd_settle.proofs.settling.settle.Goals as goal
 
 pub loop-certified-init : goal.loop-certified-init
 loop-certified-init g c = record {
   underway = underway_first (λ v. g.V.Solver.gives v (limits_of c.args.circuit.now.options)) c.args.circuit.now
       c.args.powers.now.loads c.args.solver.now c.args.rounds.now.items c.args.rounds.now.items c.args.at.now
-      c.args.clock.now c.in_ok-controls.controls refl c.requires.positions c.requires.clock
-      c.in_ok-controls.ensures.probes c.in_ok-controls.ensures.limit (c.in_ok-controls.ensures.machine c.args.at.now)
-      (c.in_ok-controls.ensures.controls c.args.at.now c.args.powers.now.loads c.requires.positions);
+      c.args.clock.now c.args.controls.now refl c.requires.positions c.requires.clock c.requires.work;
   network = c.requires.network;
-  numbers = c.in_ok-controls.ensures.numbers;
+  numbers = omega arith;
 }
 
 pub returns-in-Err : goal.returns-in-Err
@@ -26,21 +24,26 @@ returns-in-Err g c =
     let limits : c.limits_of-limits.result ≡ limits_of c.args.circuit.now.options = c.limits_of-limits.ensures.limits ∙ ap limits_of c.options.ensures.value in
     let gave = subst (λ k. g.V.Solver.gives c.loop-certified.solver k c.rows.result (Err c.in-Err.fault) c.solve.new.self) limits c.in-Err.ensures.gives in
     let o = over_solver (λ v. g.V.Solver.gives v (limits_of c.args.circuit.now.options)) c.args.circuit.now
-    c.args.powers.now c.args.at.now c.args.clock.now c.args.solver.now c.args.rounds.now.items
+    c.args.powers.now (machine_of c.args.at.now c.args.clock.now c.args.controls.now) c.args.solver.now c.args.rounds.now.items
     c.loop-certified.rounds.items c.loop-certified.at c.loop-certified.clock c.loop-certified.controls
     c.loop-certified.net c.loop-certified.solver c.loop-certified.invariant.underway
     c.loop-certified.invariant.network c.rows.result c.in-Err.fault c.solve.new.self c.rows.ensures gave in
     record {
       kept = o.kept;
       acts = o.acts;
-      at = o.at;
-      opened = o.opened;
+      machine = o.machine;
       now = o.now;
       ends = o.ends;
       calls = o.calls;
       sound = o.sound;
       positions = o.positions;
       clock = o.clock;
+      work = o.work;
+      few = omega (
+        arith,
+        few_numbers _ c.args.controls.now.queue.next c.loop-certified.at c.loop-certified.clock c.loop-certified.controls
+            c.loop-certified.invariant.underway.work.keeps c.loop-certified.invariant.numbers,
+      );
       built = c.loop-certified.invariant.network.built;
     }
 
@@ -53,27 +56,32 @@ returns-in_err-acts g c =
     let kept : c.loop-certified.rounds.items ≡ c.room_for_round.new.rounds.items = sym {A = List Round} c.room_for_round.ensures.kept in
     let here = subst (λ (rs : List Round). IsUnderway (λ v. g.V.Solver.gives v (limits_of c.args.circuit.now.options))
     c.args.circuit.now c.args.powers.now.loads c.args.solver.now
-    (begun c.args.circuit.now c.args.at.now c.args.clock.now) c.args.rounds.now.items rs Open c.loop-certified.at
+    (machine_of c.args.at.now c.args.clock.now c.args.controls.now) c.args.rounds.now.items rs Open c.loop-certified.at
     c.loop-certified.clock c.loop-certified.controls c.loop-certified.solver)
     kept c.loop-certified.invariant.underway in
-    let p = err_from_is_err_and c.from_residual-in_err-acts.result c.from_residual-in_err-acts.ensures.1 in
+    let p = err_from_is_err_and c.from_residual.result c.from_residual.ensures.1 in
     let o =
     over_memory (λ v. g.V.Solver.gives v (limits_of c.args.circuit.now.options)) c.args.circuit.now c.args.powers.now
-    c.args.at.now c.args.clock.now c.args.solver.now c.args.rounds.now.items c.room_for_round.new.rounds.items
+    (machine_of c.args.at.now c.args.clock.now c.args.controls.now) c.args.solver.now c.args.rounds.now.items c.room_for_round.new.rounds.items
     c.loop-certified.at c.loop-certified.clock c.loop-certified.controls c.loop-certified.net c.loop-certified.solver
     here c.loop-certified.invariant.network c.rows.result (claim_in c.in-Ok.certified) c.solve.new.self
-    c.from_residual-in_err-acts.result c.rows.ensures gave (p.1 ∙ ap Err p.2) in
+    c.from_residual.result c.rows.ensures gave (p.1 ∙ ap Err p.2) in
     record {
       kept = o.kept;
       acts = o.acts;
-      at = o.at;
-      opened = o.opened;
+      machine = o.machine;
       now = o.now;
       ends = o.ends;
       calls = o.calls;
       sound = o.sound;
       positions = o.positions;
       clock = o.clock;
+      work = o.work;
+      few = omega (
+        arith,
+        few_numbers _ c.args.controls.now.queue.next c.loop-certified.at c.loop-certified.clock c.loop-certified.controls
+            c.loop-certified.invariant.underway.work.keeps c.loop-certified.invariant.numbers,
+      );
       built = c.loop-certified.invariant.network.built;
     }
 
@@ -81,10 +89,13 @@ pub step-progress-requires-clause-controls : goal.step-progress-requires-clause-
 step-progress-requires-clause-controls g c =
     let long = centre_long c.args.circuit.now c.args.powers.now.loads (positions_in c.loop-certified.at) c.rows.result
     c.in-Ok.certified (c.rows.ensures ∙ c.loop-certified.invariant.network.rows) c.in-Ok.ensures.sound in
-    subst (λ k. AreControls k c.loop-certified.at c.loop-certified.clock c.loop-certified.controls) (sym long) c.loop-certified.invariant.underway.keeps
+    subst (λ k. AreControls k c.loop-certified.at c.loop-certified.clock c.loop-certified.controls) (sym long) c.loop-certified.invariant.underway.work.keeps
 
 pub step-progress-requires-clause-numbers : goal.step-progress-requires-clause-numbers
-step-progress-requires-clause-numbers g c = c.loop-certified.invariant.numbers
+step-progress-requires-clause-numbers g c =
+    let few = few_numbers _ c.args.controls.now.queue.next c.loop-certified.at c.loop-certified.clock c.loop-certified.controls
+    c.loop-certified.invariant.underway.work.keeps c.loop-certified.invariant.numbers in
+    omega (arith, few, c.requires.numbers)
 
 pub step-progress-requires-clause-ball : goal.step-progress-requires-clause-ball
 step-progress-requires-clause-ball g c = ball_of c.rows.result c.in-Ok.certified c.in-Ok.ensures.sound
@@ -98,7 +109,7 @@ returns-in-Some g c =
     let kept : c.loop-certified.rounds.items ≡ c.room_for_round.new.rounds.items = sym {A = List Round} c.room_for_round.ensures.kept in
     let here = subst (λ (rs : List Round). IsUnderway (λ v. g.V.Solver.gives v (limits_of c.args.circuit.now.options))
     c.args.circuit.now c.args.powers.now.loads c.args.solver.now
-    (begun c.args.circuit.now c.args.at.now c.args.clock.now) c.args.rounds.now.items rs Open c.loop-certified.at
+    (machine_of c.args.at.now c.args.clock.now c.args.controls.now) c.args.rounds.now.items rs Open c.loop-certified.at
     c.loop-certified.clock c.loop-certified.controls c.loop-certified.solver)
     kept c.loop-certified.invariant.underway in
     let step : IsStep c.loop-certified.at c.loop-certified.clock c.loop-certified.controls c.in-Ok.certified
@@ -107,6 +118,7 @@ returns-in-Some g c =
     record {
       probes = c.step-progress.ensures.probes;
       limit = c.step-progress.ensures.limit;
+      timing = c.step-progress.ensures.timing;
       round = c.step-progress.ensures.round;
       acts = c.step-progress.ensures.acts;
       keeps = c.step-progress.ensures.controls;
@@ -119,7 +131,7 @@ returns-in-Some g c =
     ++ (record { certified = c.in-Ok.certified; acts = c.step-progress.new.acts }) ∷ [] =
     search rules in
     let after = underway_more (λ v. g.V.Solver.gives v (limits_of c.args.circuit.now.options)) c.args.circuit.now
-    c.args.powers.now c.args.at.now c.args.clock.now c.args.solver.now c.args.rounds.now.items
+    c.args.powers.now (machine_of c.args.at.now c.args.clock.now c.args.controls.now) c.args.solver.now c.args.rounds.now.items
     c.room_for_round.new.rounds.items c.loop-certified.at c.loop-certified.clock c.loop-certified.controls
     c.loop-certified.net c.loop-certified.solver here c.loop-certified.invariant.network
     c.size-size.ensures.valid.network c.rows.result (record {
@@ -128,20 +140,26 @@ returns-in-Some g c =
     }) c.solve.new.self c.push.new.self.items c.step-progress.result c.step-progress.new.at c.step-progress.new.clock
     c.step-progress.new.self c.rows.ensures gave c.in-Ok.ensures.sound new step in
     let o = over_told (λ v. g.V.Solver.gives v (limits_of c.args.circuit.now.options)) c.args.circuit.now
-    c.args.powers.now c.args.at.now c.args.clock.now c.args.solver.now c.args.rounds.now.items c.push.new.self.items
+    c.args.powers.now (machine_of c.args.at.now c.args.clock.now c.args.controls.now) c.args.solver.now c.args.rounds.now.items c.push.new.self.items
     c.step-progress.new.at c.step-progress.new.clock c.step-progress.new.self c.solve.new.self c.step-progress.result
     c.in-Some.end c.step-progress.new.acts.items after (sym c.in-Some.ensures) c.step-progress.ensures.acts in
     record {
       kept = o.kept;
       acts = o.acts;
-      at = o.at;
-      opened = o.opened;
+      machine = o.machine;
       now = o.now;
       ends = o.ends;
       calls = o.calls;
       sound = o.sound;
       positions = o.positions;
       clock = o.clock;
+      work = o.work;
+      few = omega (
+        arith,
+        few_numbers _ c.args.controls.now.queue.next c.loop-certified.at c.loop-certified.clock c.loop-certified.controls
+            c.loop-certified.invariant.underway.work.keeps c.loop-certified.invariant.numbers,
+        c.step-progress.ensures.few,
+      );
       built = c.loop-certified.invariant.network.built;
     }
 
@@ -149,7 +167,7 @@ pub update-requires-clause-settings : goal.update-requires-clause-settings
 update-requires-clause-settings g c =
     (stepped_positions c.args.circuit.now c.args.powers.now.loads (length c.in-Ok.certified.ball.centre.items)
     c.loop-certified.at c.step-progress.new.at c.step-progress.new.clock c.step-progress.new.self
-    c.loop-certified.invariant.underway.left.positions c.step-progress.ensures.controls c.step-progress.ensures.taps
+    c.loop-certified.invariant.underway.positions c.step-progress.ensures.controls c.step-progress.ensures.taps
     c.step-progress.ensures.closed).counts
 
 pub update-requires-clause-within : goal.update-requires-clause-within
@@ -166,6 +184,7 @@ loop-certified-smaller g c =
     record {
       probes = c.step-progress.ensures.probes;
       limit = c.step-progress.ensures.limit;
+      timing = c.step-progress.ensures.timing;
       round = c.step-progress.ensures.round;
       acts = c.step-progress.ensures.acts;
       keeps = c.step-progress.ensures.controls;
@@ -177,7 +196,7 @@ loop-certified-smaller g c =
     fewer_left c.count_law.ensures c.loop-certified.at c.step-progress.new.at c.loop-certified.clock
     c.step-progress.new.clock c.loop-certified.controls c.step-progress.new.self c.in-Ok.certified
     c.step-progress.result c.step-progress.new.acts.items c.args.circuit.now.options.maxcontroliter step moved
-    c.loop-certified.invariant.underway.limit
+    c.loop-certified.invariant.underway.work.limit
 
 pub loop-certified-preserved : goal.loop-certified-preserved
 loop-certified-preserved g c =
@@ -188,7 +207,7 @@ loop-certified-preserved g c =
     let kept : c.loop-certified.rounds.items ≡ c.room_for_round.new.rounds.items = sym {A = List Round} c.room_for_round.ensures.kept in
     let here = subst (λ (rs : List Round). IsUnderway (λ v. g.V.Solver.gives v (limits_of c.args.circuit.now.options))
     c.args.circuit.now c.args.powers.now.loads c.args.solver.now
-    (begun c.args.circuit.now c.args.at.now c.args.clock.now) c.args.rounds.now.items rs Open c.loop-certified.at
+    (machine_of c.args.at.now c.args.clock.now c.args.controls.now) c.args.rounds.now.items rs Open c.loop-certified.at
     c.loop-certified.clock c.loop-certified.controls c.loop-certified.solver)
     kept c.loop-certified.invariant.underway in
     let step : IsStep c.loop-certified.at c.loop-certified.clock c.loop-certified.controls c.in-Ok.certified
@@ -197,6 +216,7 @@ loop-certified-preserved g c =
     record {
       probes = c.step-progress.ensures.probes;
       limit = c.step-progress.ensures.limit;
+      timing = c.step-progress.ensures.timing;
       round = c.step-progress.ensures.round;
       acts = c.step-progress.ensures.acts;
       keeps = c.step-progress.ensures.controls;
@@ -209,7 +229,7 @@ loop-certified-preserved g c =
     ++ (record { certified = c.in-Ok.certified; acts = c.step-progress.new.acts }) ∷ [] =
     search rules in
     let after = underway_more (λ v. g.V.Solver.gives v (limits_of c.args.circuit.now.options)) c.args.circuit.now
-    c.args.powers.now c.args.at.now c.args.clock.now c.args.solver.now c.args.rounds.now.items
+    c.args.powers.now (machine_of c.args.at.now c.args.clock.now c.args.controls.now) c.args.solver.now c.args.rounds.now.items
     c.room_for_round.new.rounds.items c.loop-certified.at c.loop-certified.clock c.loop-certified.controls
     c.loop-certified.net c.loop-certified.solver here c.loop-certified.invariant.network
     c.size-size.ensures.valid.network c.rows.result (record {
@@ -220,7 +240,7 @@ loop-certified-preserved g c =
     let moved = goes_on {F = g.row.V-Fault.Denot} c.step-progress.result (no_end _ c.ended.result c.ended.ensures c.in_default.not-Some) in
     let open' = subst (λ (q : Progress). IsUnderway (λ v. g.V.Solver.gives v (limits_of c.args.circuit.now.options))
     c.args.circuit.now c.args.powers.now.loads c.args.solver.now
-    (begun c.args.circuit.now c.args.at.now c.args.clock.now) c.args.rounds.now.items c.push.new.self.items
+    (machine_of c.args.at.now c.args.clock.now c.args.controls.now) c.args.rounds.now.items c.push.new.self.items
     (end_by q) c.step-progress.new.at c.step-progress.new.clock c.step-progress.new.self c.solve.new.self)
     moved after in
     record {
@@ -228,7 +248,8 @@ loop-certified-preserved g c =
       network =
           updated c.args.circuit.now c.args.powers.now c.step-progress.new.at c.update.new.self c.update.ensures.built
           c.in_ok-update.ensures.network c.in_ok-update.ensures.no_blame c.in_ok-update.ensures.agrees;
-      numbers = numbers_kept c.step-progress.result (HasNumbers c.step-progress.new.self) moved c.step-progress.ensures.numbers;
+      numbers = numbers_kept c.step-progress.result (HasNumbers c.args.controls.now.queue.next c.step-progress.new.self) moved
+          (c.step-progress.ensures.numbers c.args.controls.now.queue.next c.loop-certified.invariant.numbers);
     }
 
 pub returns-in_err-update : goal.returns-in_err-update
@@ -240,7 +261,7 @@ returns-in_err-update g c =
     let kept : c.loop-certified.rounds.items ≡ c.room_for_round.new.rounds.items = sym {A = List Round} c.room_for_round.ensures.kept in
     let here = subst (λ (rs : List Round). IsUnderway (λ v. g.V.Solver.gives v (limits_of c.args.circuit.now.options))
     c.args.circuit.now c.args.powers.now.loads c.args.solver.now
-    (begun c.args.circuit.now c.args.at.now c.args.clock.now) c.args.rounds.now.items rs Open c.loop-certified.at
+    (machine_of c.args.at.now c.args.clock.now c.args.controls.now) c.args.rounds.now.items rs Open c.loop-certified.at
     c.loop-certified.clock c.loop-certified.controls c.loop-certified.solver)
     kept c.loop-certified.invariant.underway in
     let step : IsStep c.loop-certified.at c.loop-certified.clock c.loop-certified.controls c.in-Ok.certified
@@ -249,6 +270,7 @@ returns-in_err-update g c =
     record {
       probes = c.step-progress.ensures.probes;
       limit = c.step-progress.ensures.limit;
+      timing = c.step-progress.ensures.timing;
       round = c.step-progress.ensures.round;
       acts = c.step-progress.ensures.acts;
       keeps = c.step-progress.ensures.controls;
@@ -261,7 +283,7 @@ returns-in_err-update g c =
     ++ (record { certified = c.in-Ok.certified; acts = c.step-progress.new.acts }) ∷ [] =
     search rules in
     let after = underway_more (λ v. g.V.Solver.gives v (limits_of c.args.circuit.now.options)) c.args.circuit.now
-    c.args.powers.now c.args.at.now c.args.clock.now c.args.solver.now c.args.rounds.now.items
+    c.args.powers.now (machine_of c.args.at.now c.args.clock.now c.args.controls.now) c.args.solver.now c.args.rounds.now.items
     c.room_for_round.new.rounds.items c.loop-certified.at c.loop-certified.clock c.loop-certified.controls
     c.loop-certified.net c.loop-certified.solver here c.loop-certified.invariant.network
     c.size-size.ensures.valid.network c.rows.result (record {
@@ -272,25 +294,31 @@ returns-in_err-update g c =
     let moved = goes_on {F = g.row.V-Fault.Denot} c.step-progress.result (no_end _ c.ended.result c.ended.ensures c.in_default.not-Some) in
     let open' = subst (λ (q : Progress). IsUnderway (λ v. g.V.Solver.gives v (limits_of c.args.circuit.now.options))
     c.args.circuit.now c.args.powers.now.loads c.args.solver.now
-    (begun c.args.circuit.now c.args.at.now c.args.clock.now) c.args.rounds.now.items c.push.new.self.items
+    (machine_of c.args.at.now c.args.clock.now c.args.controls.now) c.args.rounds.now.items c.push.new.self.items
     (end_by q) c.step-progress.new.at c.step-progress.new.clock c.step-progress.new.self c.solve.new.self)
     moved after in
     let p = err_from_is_err_and c.from_residual-in_err-update.result c.from_residual-in_err-update.ensures.1 in
     let o = over_refused (λ v. g.V.Solver.gives v (limits_of c.args.circuit.now.options)) c.args.circuit.now
-    c.args.powers.now c.args.at.now c.args.clock.now c.args.solver.now c.args.rounds.now.items c.push.new.self.items
+    c.args.powers.now (machine_of c.args.at.now c.args.clock.now c.args.controls.now) c.args.solver.now c.args.rounds.now.items c.push.new.self.items
     c.step-progress.new.at c.step-progress.new.clock c.step-progress.new.self c.solve.new.self
     c.in_err-update.field-0.0 c.from_residual-in_err-update.result open' c.in_err-update.ensures.fault
     (p.1 ∙ ap Err p.2) in
     record {
       kept = o.kept;
       acts = o.acts;
-      at = o.at;
-      opened = o.opened;
+      machine = o.machine;
       now = o.now;
       ends = o.ends;
       calls = o.calls;
       sound = o.sound;
       positions = o.positions;
       clock = o.clock;
+      work = o.work;
+      few = omega (
+        arith,
+        few_numbers _ c.args.controls.now.queue.next c.loop-certified.at c.loop-certified.clock c.loop-certified.controls
+            c.loop-certified.invariant.underway.work.keeps c.loop-certified.invariant.numbers,
+        c.step-progress.ensures.few,
+      );
       built = c.update.ensures.built;
     }

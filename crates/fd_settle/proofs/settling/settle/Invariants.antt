@@ -1,7 +1,7 @@
 use Rattle.std.proofs.Common.{◌-◌}
 use Rattle.fd_sample.specs.Probes.{positions_in}
-use Rattle.fd_settle.specs.Contract.{begun, limits_of}
-use Rattle.fd_settle.specs.Controls.{HasNumbers}
+use Rattle.fd_settle.specs.Contract.{limits_of}
+use Rattle.fd_settle.specs.Controls.{HasNumbers, machine_of}
 use Rattle.fd_settle.specs.Settle.{Open}
 use Rattle.fd_settle.specs.Start.{IsNetworkAt}
 use Rattle.fd_settle.proofs.Underway.{IsUnderway}
@@ -11,9 +11,9 @@ abbrev pub invariant-loop-certified : goal.invariant-loop-certified
 invariant-loop-certified g l = record {
   underway :
       IsUnderway (λ v. g.V.Solver.gives v (limits_of l.fn.circuit.options)) l.fn.circuit l.fn.powers.loads l.fn.solver
-      (begun l.fn.circuit l.fn.at l.fn.clock) l.fn.rounds.items l.rounds.items Open l.at l.clock l.controls l.solver;
+      (machine_of l.fn.at l.fn.clock l.fn.controls) l.fn.rounds.items l.rounds.items Open l.at l.clock l.controls l.solver;
   network : IsNetworkAt l.fn.circuit l.fn.powers.loads (positions_in l.at) l.net;
-  numbers : HasNumbers l.controls;
+  numbers : HasNumbers l.fn.controls.queue.next l.controls;
 }
 
 -- the acts that are still allowed

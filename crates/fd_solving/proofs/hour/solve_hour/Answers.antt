@@ -1,7 +1,7 @@
 use Rattle.std.proofs.Common.{◌≡◌, ◌∙◌, ◌+◌, List, Ok, Err, ap, refl, subst}
 use Rattle.dss_commands.specs.dss_circuit.Circuit.{CircuitView}
 use Rattle.fd_daily.specs.Day.{begun_hour, hour_in}
-use Rattle.fd_daily.specs.Underway.{plant_at}
+use Rattle.fd_daily.specs.Underway.{machine_in, plant_at}
 use Rattle.fd_daily.specs.fd_settings.Hours.{hour_powers}
 use Rattle.fd_daily.specs.fd_devices.declared.settings.Powers.{Powers}
 use Rattle.fd_daily.specs.fd_elements.declared.powers.LoadPower.{LoadPower}
@@ -26,21 +26,20 @@ returns-in-Ok-clause-made c n number =
     let circuit = c.args.circuit.now in
     let u = c.args.underway.now in
     let hour = hour_in u.day in
-    let m = begun_hour circuit c.args.at.now u.day in
+    let m = begun_hour circuit u.day (machine_in c.args.at.now u) in
     let new = c.daily_run-ended.new in
     let rs = new.underway.rounds.items in
-    let k = kept_in new.at new.underway.day (n + 1) in
+    let k = kept_in (machine_in new.at new.underway) (n + 1) in
     let e = c.in-Ok.ensures in
     let made : IsMade circuit (hour_powers circuit.elements hour) m rs (Ok tt) k = record {
-      at_is = e.at;
-      opened_is = e.opened;
+      left_is = e.machine;
       ends = e.ends;
       computed = computed {T = Unit {0}} (limits_of circuit.options) (plant_at circuit hour) c.new-solver.result m rs (Ok tt) new.solver e.acts e.ends e.calls;
       sound = e.sound;
       positions = of_hour circuit hour (positions_in new.at) new.underway.powers u.powers e.powers c.requires.underway.powers e.positions;
       tried = tt;
     } in
-    ended_well circuit hour (kept_in c.args.at.now u.day n) rs k c.requires.ready
+    ended_well circuit hour (kept_in (machine_in c.args.at.now u) n) rs k c.requires.ready
     c.options-options.ensures.in_range.maxcontroliter refl tt made
 
 pub failure_of-requires-clause-within : goal.failure_of-requires-clause-within
@@ -48,7 +47,7 @@ failure_of-requires-clause-within c =
     let circuit = c.args.circuit.now in
     let u = c.args.underway.now in
     within (limits_of circuit.options) circuit (hour_powers circuit.elements (hour_in u.day)) c.new-solver.result
-    (begun_hour circuit c.args.at.now u.day) c.daily_run-ended.new.underway.rounds.items c.in-Err.fault
+    (begun_hour circuit u.day (machine_in c.args.at.now u)) c.daily_run-ended.new.underway.rounds.items c.in-Err.fault
     c.daily_run-ended.new.solver c.layout.result.now (c.layout.ensures ∙ c.in-Err.ensures.built.layout)
     c.in-Err.ensures.calls
 
@@ -57,14 +56,13 @@ returns-in_ok-failure-in-Err-clause-made c n number =
     let circuit = c.args.circuit.now in
     let u = c.args.underway.now in
     let hour = hour_in u.day in
-    let m = begun_hour circuit c.args.at.now u.day in
+    let m = begun_hour circuit u.day (machine_in c.args.at.now u) in
     let new = c.daily_run-ended.new in
     let rs = new.underway.rounds.items in
-    let k = kept_in new.at new.underway.day (n + 1) in
+    let k = kept_in (machine_in new.at new.underway) (n + 1) in
     let e = c.in-Err.ensures in
     let made : IsMade circuit (hour_powers circuit.elements hour) m rs (Err c.in-Err.fault) k = record {
-      at_is = e.at;
-      opened_is = e.opened;
+      left_is = e.machine;
       ends = e.ends;
       computed = computed {T = Unit {0}} (limits_of circuit.options) (plant_at circuit hour) c.new-solver.result m rs
           (Err c.in-Err.fault) new.solver e.acts e.ends e.calls;
@@ -72,6 +70,6 @@ returns-in_ok-failure-in-Err-clause-made c n number =
       positions = of_hour circuit hour (positions_in new.at) new.underway.powers u.powers e.powers c.requires.underway.powers e.positions;
       tried = tried_by_calls (limits_of circuit.options) (plant_at circuit hour) c.new-solver.result m rs (Err c.in-Err.fault) new.solver e.calls;
     } in
-    ended_by_fault circuit hour (kept_in c.args.at.now u.day n) rs k c.requires.ready
+    ended_by_fault circuit hour (kept_in (machine_in c.args.at.now u) n) rs k c.requires.ready
     c.options-options.ensures.in_range.maxcontroliter refl c.in-Err.fault c.in_ok-failure-in-Err.failure
     made c.in_ok-failure-in-Err.ensures.of_command c.in_ok-failure-in-Err.ensures.tried (c.in_ok-failure-in-Err.ensures.tells hour)

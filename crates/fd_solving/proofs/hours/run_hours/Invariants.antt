@@ -1,6 +1,6 @@
 use Rattle.std.proofs.Common.{◌≤◌, ◌+◌, length}
 use Rattle.fd_daily.specs.Day.{hours_left}
-use Rattle.fd_daily.specs.Underway.{IsUnderway}
+use Rattle.fd_daily.specs.Underway.{IsUnderway, machine_in}
 use Rattle.fd_solving.specs.Answered.{kept_in}
 use Rattle.fd_solving.specs.Tallies.{HasRoom}
 use Rattle.fd_solving.proofs.Hourly.{HourWay}
@@ -13,8 +13,8 @@ invariant-loop-alloc g l = record {
   room : HasRoom l.tally l.settled;
   later : g.S.Sink.faults l.initial.out ≤ g.S.Sink.faults l.out;
   way : HourWay g.P.Page.style l.circuit (hours_left l.initial.underway.day)
-      (kept_in l.initial.at l.initial.underway.day l.initial.settled) g.S.Sink.taken g.S.Sink.calls l.initial.out
-      l.initial.begun l.initial.tally (hours_left l.underway.day) (kept_in l.at l.underway.day l.settled) l.out
+      (kept_in (machine_in l.initial.at l.initial.underway) l.initial.settled) g.S.Sink.taken g.S.Sink.calls l.initial.out
+      l.initial.begun l.initial.tally (hours_left l.underway.day) (kept_in (machine_in l.at l.underway) l.settled) l.out
       l.begun l.tally;
 }
 

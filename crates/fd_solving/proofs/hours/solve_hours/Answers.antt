@@ -1,6 +1,7 @@
 use Rattle.fd_daily.specs.Day.{hours_left}
 use Rattle.fd_daily.specs.Hours.{hours_of}
 use Rattle.fd_daily.specs.fd_sample.Probes.{positions_in}
+use Rattle.fd_daily.specs.Underway.{machine_in}
 use Rattle.fd_solving.specs.Answered.{kept_in}
 use Rattle.fd_solving.specs.Solving.{IsHoursStep, IsSolutionStep, kept_first}
 use Rattle.fd_solving.specs.Steps.{standing}
@@ -20,8 +21,8 @@ returns-in-Ok-clause-goes g c none =
     let at = c.start.new.at in
     let n = c.run_hours.new in
     tallied_as g.P.Page.style g.S.Sink.taken g.S.Sink.calls
-    (IsHoursStep circuit (hours_left day) (kept_in at day settled)) (IsSolutionStep (standing circuit before settled))
-    (solution_step circuit before settled at day first.start first.opened first.left)
+    (IsHoursStep circuit (hours_left day) (kept_in (machine_in at c.in-Ok.underway) settled)) (IsSolutionStep (standing circuit before settled))
+    (solution_step circuit before settled (machine_in at c.in-Ok.underway) at day first.start first.machine first.left)
     (standing circuit (positions_in n.at) n.settled) c.args.out.now n.out c.args.begun.now n.begun c.args.tally.now
     n.tally (c.run_hours.ensures.goes none)
 
@@ -35,8 +36,8 @@ returns-in-Ok-clause-ends g c =
     let at = c.start.new.at in
     if_some_weaker c.run_hours.result _ _ (λ code ends.
     ends_as g.P.Page.style g.S.Sink.taken g.S.Sink.calls
-    (IsHoursStep circuit (hours_left day) (kept_in at day settled)) (IsSolutionStep (standing circuit before settled))
-    (solution_step circuit before settled at day first.start first.opened first.left) c.args.out.now
+    (IsHoursStep circuit (hours_left day) (kept_in (machine_in at c.in-Ok.underway) settled)) (IsSolutionStep (standing circuit before settled))
+    (solution_step circuit before settled (machine_in at c.in-Ok.underway) at day first.start first.machine first.left) c.args.out.now
     c.run_hours.new.out c.args.begun.now code ends)
     c.run_hours.ensures.ends
 

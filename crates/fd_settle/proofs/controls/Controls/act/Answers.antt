@@ -48,10 +48,10 @@ returns c =
     let taps = c.new-5.ensures ∙ with_items_is c.into_vec-taps.result c.act_all.new.taps (c.act_all.ensures.each_tap ∙ c.deref_mut-2.ensures.len) in
     let closed = c.new-6.ensures ∙ with_items_is c.into_vec-closed.result c.act_all.new.closed (c.act_all.ensures.each_closed ∙ c.deref_mut-3.ensures.len) in
     let opened = with_items_is c.args.clock.now.opened c.act_all.new.opened (c.act_all.ensures.each_opened ∙ c.deref_mut-4.ensures.len) in
-    let acts : ActsLeadTo (nearest q.entries) ss c.args.at.now.taps c.args.at.now.closed c.args.clock.now.opened.items
+    let acts : ActsLeadTo c.args.self.now.timing c.args.clock.now.now (nearest q.entries) ss c.args.at.now.taps c.args.at.now.closed c.args.clock.now.opened.items
     (with_items c.args.self.now.states c.act_all.new.states).items c.new-5.result c.new-6.result
     (with_items c.args.clock.now.opened c.act_all.new.opened).items (map seen c.act_all.new.acts.items) =
-    act_from (nearest q.entries) c.deref.result.now ss c.deref_mut.result.now c.args.at.now.taps
+    act_from c.args.self.now.timing c.args.clock.now.now (nearest q.entries) c.deref.result.now ss c.deref_mut.result.now c.args.at.now.taps
     c.deref_mut-2.result.now c.args.at.now.closed c.deref_mut-3.result.now c.args.clock.now.opened.items
     c.deref_mut-4.result.now (with_items c.args.self.now.states c.act_all.new.states).items c.act_all.new.states
     c.new-5.result c.act_all.new.taps c.new-6.result c.act_all.new.closed
@@ -59,7 +59,7 @@ returns c =
     (map seen c.act_all.new.acts.items) e_due e_ss e_taps e_closed e_opened (sym new) (sym taps) (sym closed)
     (sym opened) c.act_all.ensures.acts in
     record {
-      machine = λ limit. all_acted_shows limit (positions_in c.args.at.now) (positions_in at) c.args.self.now.made c.args.clock.now clock ss
+      machine = λ limit. all_acted_shows c.args.self.now.timing limit (positions_in c.args.at.now) (positions_in at) c.args.self.now.made c.args.clock.now clock ss
           (with_items c.args.self.now.states c.act_all.new.states).items q c.take_nearest.new.self (map seen c.act_all.new.acts.items) acts
           c.take_nearest.ensures.entries c.take_nearest.ensures.next refl;
       made_acts = λ limit. acts.acts limit (machine_of c.args.at.now c.args.clock.now c.args.self.now);
@@ -74,5 +74,6 @@ returns c =
       verdicts = refl;
       made = refl;
       limit = refl;
+      timing = refl;
       now = refl;
     }

@@ -30,4 +30,5 @@ returns c =
       due = refl;
       made = refl;
       limit = refl;
+      timing = refl;
     }

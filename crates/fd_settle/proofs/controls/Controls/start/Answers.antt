@@ -1,9 +1,9 @@
 use Rattle.std.proofs.Common.{◌≡◌, ◌≤◌, ◌^◌, length, ap, arith, refl, rules, subst, ◌∙◌}
 use Rattle.fd_sample.specs.Circuits.{AreProbes}
 use Rattle.fd_settle.specs.Acting.{fresh_from}
-use Rattle.fd_settle.specs.Plant.{controls_in}
-use Rattle.fd_settle.proofs.Starting.{IsStarted, fresh_length, started_controls, started_machine, started_probes}
-use Rattle.fd_settle.proofs.controls.Controls.start.Goals.{After-len-count, After-options}
+use Rattle.fd_settle.specs.Plant.{controls_in, timing_of}
+use Rattle.fd_settle.proofs.Starting.{IsStarted, fresh_length, started_machine, started_work}
+use Rattle.fd_settle.proofs.controls.Controls.start.Goals.{After-len-count, After-timing_of}
 use Rattle.fd_settle.proofs.controls.Controls.start.Goals as goal
 
 fresh : (c : After-len-count)
@@ -19,13 +19,14 @@ few c =
     let each = ap length (fresh c) ∙ fresh_length c.args.clock.now.opened.items 0 (controls_in c.args.circuit.now) in
     omega (arith, each, (fit c).few, c.elements-elements.ensures.few)
 
-begun : (c : After-options) → IsStarted c.args.circuit.now c.args.clock.now (record {
+begun : (c : After-timing_of) → IsStarted c.args.circuit.now c.args.clock.now (record {
   states = c.in_ok-states.states;
   verdicts = c.in_ok-with_capacity.field-0;
   queue = c.in_ok-with_room.field-0;
   due = c.in_ok-with_capacity-2.field-0;
   made = 0;
   limit = c.options.result.now.maxcontroliter;
+  timing = c.timing_of.result;
 })
 begun c = record {
   states = c.in_ok-states.ensures ∙ ap (λ os. fresh_from os 0 c.deref.result.now) c.deref-2.ensures.value
@@ -37,6 +38,7 @@ begun c = record {
   verdicts = search rules;
   made = refl;
   limit = ap (λ o. o.maxcontroliter) c.options.ensures.value;
+  timing = c.timing_of.ensures ∙ ap (λ o. timing_of o.controlmode) c.options-2.ensures.value;
 }
 
 pub overflow_cast-count : goal.overflow_cast-count
@@ -45,14 +47,11 @@ overflow_cast-count c =
     let n : c.len-count.result ≤ 2 ^ 17 = omega (arith, most, c.len-count.ensures, c.in_ok-states.states.ok.0) in
     search rules
 
-pub returns-clause-probes : goal.returns-clause-probes
-returns-clause-probes c = started_probes _ _ _ (begun (goal.at.returns-clause-probes c).After-options)
-
 pub returns-clause-machine : goal.returns-clause-machine
-returns-clause-machine c = λ at. started_machine _ _ _ at (begun (goal.at.returns-clause-machine c).After-options)
+returns-clause-machine c = λ at. started_machine _ _ _ at (begun (goal.at.returns-clause-machine c).After-timing_of)
 
-pub returns-clause-controls : goal.returns-clause-controls
-returns-clause-controls c = λ at powers positions.
-    started_controls _ _ _ at powers (begun (goal.at.returns-clause-controls c).After-options) c.requires.clock positions
+pub returns-clause-work : goal.returns-clause-work
+returns-clause-work c = λ at powers positions.
+    started_work _ _ _ at powers (begun (goal.at.returns-clause-work c).After-timing_of) c.requires.clock positions
     (subst (AreProbes c.args.circuit.now.elements) c.in_ok-probes.ensures.probes c.in_ok-probes.ensures.fit) c.elements-elements.ensures.few
     c.options.ensures.in_range.maxcontroliter

@@ -1,7 +1,6 @@
 use Rattle.std.proofs.Common.{◌≡◌, length, map, ap, arith, refl, sym, ◌∙◌}
 use Rattle.std.specs.List.{list_any}
-use Rattle.std.specs.Option.{is_some}
-use Rattle.fd_sample.specs.fd_queue.Decisions.{way_of}
+use Rattle.fd_sample.specs.fd_queue.Machine.{rule_of}
 use Rattle.fd_sample.specs.fd_queue.Verdicts.{decision}
 use Rattle.fd_cert.specs.Claims.{claim_in}
 use Rattle.fd_sample.specs.Probes.{positions_in}
@@ -10,10 +9,10 @@ use Rattle.fd_settle.specs.Acting.{sampled_over}
 use Rattle.fd_settle.specs.Controls.{probes_in}
 use Rattle.fd_settle.specs.Sampling.{Decided, look_over}
 use Rattle.fd_settle.proofs.Steps.{IsAfterReactions, acted_controls, acted_numbers, can_act_now, limits, moves_on, settles, after_reactions}
-use Rattle.fd_settle.proofs.controls.Controls.step.Goals.{After-some_moves}
+use Rattle.fd_settle.proofs.controls.Controls.step.Goals.{After-is_due}
 use Rattle.fd_settle.proofs.controls.Controls.step.Goals as goal
 
-sampled : (c : After-some_moves)
+sampled : (c : After-is_due)
     → sampled_over c.args.self.now.states.items (positions_in c.args.at.now) c.args.certified.now.ball.centre.items c.args.certified.now.ball.radius.items
     ≡ Decided (map decision c.sample_all-undecided.new.verdicts.items)
 sampled c =
@@ -23,12 +22,12 @@ sampled c =
     ∙ ap (λ xs. sampled_over c.deref.result.now at c.deref-2.result.now xs) (sym c.deref-3.ensures.value)
     ∙ c.in_default.ensures.sampled.0
 
-looked : (c : After-some_moves)
+looked : (c : After-is_due)
     → look_over (probes_in c.args.self.now) (positions_in c.args.at.now) (claim_in c.args.certified.now)
     ≡ Decided (map decision c.sample_all-undecided.new.verdicts.items)
 looked c = sampled c
 
-here_reacted : (c : After-some_moves)
+here_reacted : (c : After-is_due)
     → IsAfterReactions (length c.args.certified.now.ball.centre.items) c.args.at.now c.args.clock.now c.args.self.now c.react.new.self
     c.sample_all-undecided.new.verdicts.items
 here_reacted c =
@@ -40,56 +39,56 @@ here_reacted c =
       due = before.due;
       made = before.made;
       limit = before.limit;
+      timing = before.timing;
     } in
-    after_reactions c.queue_law.ensures c.own_law.ensures c.sampled_law.ensures c.tap_law.ensures c.away_law.ensures
+    after_reactions c.queue_law.ensures c.own_law.ensures c.tap_law.ensures c.away_law.ensures
     (length c.args.certified.now.ball.centre.items) c.args.at.now c.args.clock.now before after c.react.new.self
     c.args.certified.now.ball.centre.items c.args.certified.now.ball.radius.items c.requires.controls
-    c.requires.numbers refl refl refl refl refl
+    refl refl refl refl refl refl
     (omega (arith, c.requires.controls.verdict_room, c.sample_all-undecided.ensures.capacity))
     (c.in_default.ensures.each refl ∙ ap length c.deref.ensures.value) (sampled c) c.react.ensures
 
--- whether a control wants to move
-some : (c : After-some_moves)
-    → c.some_moves.result ≡ list_any (λ v. is_some (way_of (decision v))) c.sample_all-undecided.new.verdicts.items
-some c = c.some_moves.ensures
-    ∙ ap (list_any (λ v. is_some (way_of (decision v)))) (c.deref-4.ensures.value ∙ ap (λ v. v.items) c.react.ensures.verdicts)
+-- whether an entry is due
+some : (c : After-is_due)
+    → list_any ((rule_of c.react.new.self.timing).is_due c.args.clock.now.now) c.react.new.self.queue.entries ≡ c.is_due.result
+some c = sym c.is_due.ensures
 
--- ---- where no control wants to move
+-- ---- where no entry is due
 
-pub returns-then-not-some_moves-clause-probes : goal.returns-then-not-some_moves-clause-probes
-returns-then-not-some_moves-clause-probes c = (here_reacted (goal.at.returns-then-not-some_moves-clause-probes c).After-some_moves).probes
+pub returns-then-not-is_due-clause-probes : goal.returns-then-not-is_due-clause-probes
+returns-then-not-is_due-clause-probes c = (here_reacted (goal.at.returns-then-not-is_due-clause-probes c).After-is_due).probes
 
-pub returns-then-not-some_moves-clause-round : goal.returns-then-not-some_moves-clause-round
-returns-then-not-some_moves-clause-round c =
-    let d = (goal.at.returns-then-not-some_moves-clause-round c).After-some_moves in
-    settles _ _ _ _ _ _ _ (here_reacted d) (looked d) (sym (some d) ∙ c.if-not-some_moves.true)
+pub returns-then-not-is_due-clause-round : goal.returns-then-not-is_due-clause-round
+returns-then-not-is_due-clause-round c =
+    let d = (goal.at.returns-then-not-is_due-clause-round c).After-is_due in
+    settles _ _ _ _ _ _ _ (here_reacted d) (looked d) (some d ∙ c.if-not-is_due.true)
 
-pub returns-then-not-some_moves-clause-controls : goal.returns-then-not-some_moves-clause-controls
-returns-then-not-some_moves-clause-controls c = (here_reacted (goal.at.returns-then-not-some_moves-clause-controls c).After-some_moves).controls
+pub returns-then-not-is_due-clause-controls : goal.returns-then-not-is_due-clause-controls
+returns-then-not-is_due-clause-controls c = (here_reacted (goal.at.returns-then-not-is_due-clause-controls c).After-is_due).controls
 
 -- ---- where the acts are as many as are allowed
 
 pub returns-then-self-clause-probes : goal.returns-then-self-clause-probes
-returns-then-self-clause-probes c = (here_reacted (goal.at.returns-then-self-clause-probes c).After-some_moves).probes
+returns-then-self-clause-probes c = (here_reacted (goal.at.returns-then-self-clause-probes c).After-is_due).probes
 
 pub returns-then-self-clause-round : goal.returns-then-self-clause-round
 returns-then-self-clause-round c =
-    let d = (goal.at.returns-then-self-clause-round c).After-some_moves in
-    limits _ _ _ _ _ _ _ (here_reacted d) (looked d) (sym (some d) ∙ c.if-not-some_moves.false) c.if-self.true
+    let d = (goal.at.returns-then-self-clause-round c).After-is_due in
+    limits _ _ _ _ _ _ _ (here_reacted d) (looked d) (some d ∙ c.if-not-is_due.false) c.if-self.true
 
 pub returns-then-self-clause-controls : goal.returns-then-self-clause-controls
-returns-then-self-clause-controls c = (here_reacted (goal.at.returns-then-self-clause-controls c).After-some_moves).controls
+returns-then-self-clause-controls c = (here_reacted (goal.at.returns-then-self-clause-controls c).After-is_due).controls
 
 -- ---- where entries act
 
 pub act-requires-clause-controls : goal.act-requires-clause-controls
 act-requires-clause-controls c =
-    let t = here_reacted (goal.at.act-requires-clause-controls c).After-some_moves in
+    let t = here_reacted (goal.at.act-requires-clause-controls c).After-is_due in
     can_act_now c.room_law.ensures _ _ _ _ t.controls t.can_act
 
 pub act-requires-clause-room : goal.act-requires-clause-room
 act-requires-clause-room c =
-    let t = here_reacted (goal.at.act-requires-clause-room c).After-some_moves in
+    let t = here_reacted (goal.at.act-requires-clause-room c).After-is_due in
     omega (
       arith,
       c.room_law.ensures (length c.react.new.self.states.items) c.react.new.self.queue.next
@@ -99,17 +98,17 @@ act-requires-clause-room c =
     )
 
 pub returns-else-self-clause-probes : goal.returns-else-self-clause-probes
-returns-else-self-clause-probes c = c.act.ensures.probes ∙ (here_reacted (goal.at.returns-else-self-clause-probes c).After-some_moves).probes
+returns-else-self-clause-probes c = c.act.ensures.probes ∙ (here_reacted (goal.at.returns-else-self-clause-probes c).After-is_due).probes
 
 pub returns-else-self-clause-round : goal.returns-else-self-clause-round
 returns-else-self-clause-round c =
-    let d = (goal.at.returns-else-self-clause-round c).After-some_moves in
-    moves_on _ _ _ _ _ _ _ _ _ _ _ (here_reacted d) (looked d) (sym (some d) ∙ c.if-not-some_moves.false) c.if-self.false c.act.ensures
+    let d = (goal.at.returns-else-self-clause-round c).After-is_due in
+    moves_on _ _ _ _ _ _ _ _ _ _ _ (here_reacted d) (looked d) (some d ∙ c.if-not-is_due.false) c.if-self.false c.act.ensures
 
 pub returns-else-self-clause-controls : goal.returns-else-self-clause-controls
 returns-else-self-clause-controls c =
-    acted_controls _ _ _ _ _ _ _ _ (here_reacted (goal.at.returns-else-self-clause-controls c).After-some_moves).controls c.act.ensures c.if-self.false
+    acted_controls _ _ _ _ _ _ _ _ (here_reacted (goal.at.returns-else-self-clause-controls c).After-is_due).controls c.act.ensures c.if-self.false
 
 pub returns-else-self-clause-numbers : goal.returns-else-self-clause-numbers
-returns-else-self-clause-numbers c =
-    acted_numbers _ _ _ _ _ _ _ _ _ _ (here_reacted (goal.at.returns-else-self-clause-numbers c).After-some_moves) c.act.ensures
+returns-else-self-clause-numbers c = λ first numbers.
+    acted_numbers _ _ _ _ _ _ _ _ _ _ first (here_reacted (goal.at.returns-else-self-clause-numbers c).After-is_due) c.act.ensures numbers

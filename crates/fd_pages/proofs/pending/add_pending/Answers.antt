@@ -1,0 +1,37 @@
+use Rattle.std.proofs.Common.{◌≡◌, ◌∙◌, ◌++◌, ap, length, refl, slice_get, subst, sym}
+use Rattle.std.specs.Prelude.{OnOk}
+use Rattle.std.specs.Map.Iter.{deref_pair}
+use Rattle.std.specs.Option.{option_map}
+use Rattle.std.proofs.lemmas.Option.{slice_get_past, slice_get_read}
+use Rattle.fd_outcome.specs.fd_outside.Emitted.{pieces_of}
+use Rattle.fd_outcome.specs.fd_report.Lines.{lines_of}
+use Rattle.fd_pages.specs.Pending.{pending_rows_by}
+use Rattle.fd_pages.proofs.Recorded.{control_at, is_found, no_control, no_rows}
+use Rattle.fd_pages.proofs.pending.add_pending.Goals as goal
+
+pub unwrap-requires : goal.unwrap-requires
+unwrap-requires c =
+    let look = c.in-Some.ensures.lookup in
+    let at = slice_get_read c.args.controls.now (length c.args.controls.now) c.args.entry.now.control c.in-Some.place.now refl look.3.0 look.1 in
+    let entries = c.as_slice-entries.ensures.entries ∙ c.elements.ensures.entries in
+    is_found c.args.circuit.now.elements c.args.controls.now c.args.entry.now.control c.in-Some.place.now deref_pair _
+    c.requires at (c.get_index.ensures.entry ∙ ap (λ es. slice_get es c.in-Some.place.now) entries)
+
+pub returns-in-None : goal.returns-in-None
+returns-in-None c =
+    let look = c.in-None.ensures.lookup in
+    let none = no_control c.args.circuit.now.elements c.args.controls.now c.args.entry.now.control c.requires
+    (slice_get_past c.args.controls.now c.args.entry.now.control look.3) in
+    no_rows (pieces_of c.args.into.now.items) _ (ap (λ o. pending_rows_by o c.args.entry.now) none)
+
+pub returns-in-Some : goal.returns-in-Some
+returns-in-Some c =
+    let look = c.in-Some.ensures.lookup in
+    let at = slice_get_read c.args.controls.now (length c.args.controls.now) c.args.entry.now.control c.in-Some.place.now refl look.3.0 look.1 in
+    let entries = c.as_slice-entries.ensures.entries ∙ c.elements.ensures.entries in
+    let here = ap (λ es. slice_get es c.in-Some.place.now) (sym entries) ∙ sym c.get_index.ensures.entry ∙ ap (option_map deref_pair) c.unwrap.ensures in
+    let control = control_at c.args.circuit.now.elements c.args.controls.now c.args.entry.now.control c.in-Some.place.now c.requires at ∙ here in
+    subst (λ o.
+    OnOk c.push_pending.result (pieces_of c.push_pending.new.into.items
+    ≡ pieces_of c.args.into.now.items ++ lines_of (pending_rows_by o c.args.entry.now)))
+    (sym control) (c.push_pending.ensures c.unwrap.result.1.now)
