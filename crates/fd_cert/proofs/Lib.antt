@@ -9,4 +9,6 @@ pub mod Certificates
 pub mod SlopeRadii
 pub mod Rechecks
 pub mod FirstBroken
+pub mod Copies
+pub mod Wider
 pub mod CallerLemmas

@@ -8,4 +8,6 @@ pub mod Slopes
 pub mod Reaches
 pub mod Verdicts
 pub mod Rechecks
+pub mod Widening
+pub mod Agreement
 pub use Rattle.fd_enclosure.specs as fd_enclosure
