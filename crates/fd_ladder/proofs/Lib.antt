@@ -3,3 +3,5 @@ mod Noting
 mod Waking
 mod Passing
 pub mod Settled
+mod Counted
+pub mod CallerLemmas

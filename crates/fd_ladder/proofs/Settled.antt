@@ -11,25 +11,25 @@ use Rattle.fd_ladder.proofs.Passing.{stays}
 
 -- ---- what is taken stays taken
 
-abbrev Keeps : Reach → Reach → Type 0
+abbrev pub Keeps : Reach → Reach → Type 0
 Keeps r t = (number : ℕ) → is_taken r.order number ≡ true → is_taken t.order number ≡ true
 
-taken_keeps : (s : Section) (r : Reach) → Keeps r (taken s r)
+pub taken_keeps : (s : Section) (r : Reach) → Keeps r (taken s r)
 taken_keeps s r number h = by (is_next r s)
   where
     by : (b : Bool) → is_taken (cond b (with_taken r s) r).order number ≡ true
     by true = list_any-append (nat_eq number) r.order (s.element ∷ []) ∙ or_left (is_taken r.order number) (list_any (nat_eq number) (s.element ∷ [])) h
     by false = h
 
-pass_keeps : (sections : List Section) (r : Reach) → Keeps r (pass sections r)
+pub pass_keeps : (sections : List Section) (r : Reach) → Keeps r (pass sections r)
 pass_keeps [] r number h = h
 pass_keeps (s ∷ sections) r number h = pass_keeps sections (taken s r) number (taken_keeps s r number h)
 
-abbrev is_done : Section → Reach → Bool
+abbrev pub is_done : Section → Reach → Bool
 is_done s r = is_taken r.order s.element
 
 -- a section changes nothing, or it wasn't taken and is
-first_time : (s : Section) (r : Reach) → (taken s r ≡ r) ⊎ ((is_done s r ≡ false) × (is_done s (taken s r) ≡ true))
+pub first_time : (s : Section) (r : Reach) → (taken s r ≡ r) ⊎ ((is_done s r ≡ false) × (is_done s (taken s r) ≡ true))
 first_time s r = by (is_taken r.order s.element) refl (can_be_taken r.nodes s) refl
   where
     by : (b : Bool) → is_taken r.order s.element ≡ b → (c : Bool) → can_be_taken r.nodes s ≡ c
@@ -45,10 +45,10 @@ first_time s r = by (is_taken r.order s.element) refl (can_be_taken r.nodes s) r
 
 -- ---- how many sections are taken
 
-abbrev one : Bool → ℕ
+abbrev pub one : Bool → ℕ
 one b = cond b 1 0
 
-abbrev done_count : List Section → Reach → ℕ
+abbrev pub done_count : List Section → Reach → ℕ
 done_count [] r = 0
 done_count (s ∷ sections) r = one (is_done s r) + done_count sections r
 
@@ -56,15 +56,15 @@ at_most_one : (b : Bool) → one b ≤ 1
 at_most_one true = omega arith
 at_most_one false = omega arith
 
-one_kept : (b c : Bool) → (b ≡ true → c ≡ true) → one b ≤ one c
+pub one_kept : (b c : Bool) → (b ≡ true → c ≡ true) → one b ≤ one c
 one_kept true c h = rw (h refl) (omega arith)
 one_kept false c h = omega arith
 
-done_most : (sections : List Section) (r : Reach) → done_count sections r ≤ length sections
+pub done_most : (sections : List Section) (r : Reach) → done_count sections r ≤ length sections
 done_most [] r = omega arith
 done_most (s ∷ sections) r = omega (arith, at_most_one (is_done s r), done_most sections r)
 
-count_kept : (sections : List Section) (r t : Reach) → Keeps r t → done_count sections r ≤ done_count sections t
+pub count_kept : (sections : List Section) (r t : Reach) → Keeps r t → done_count sections r ≤ done_count sections t
 count_kept [] r t keeps = omega arith
 count_kept (s ∷ sections) r t keeps =
     omega (arith, one_kept (is_done s r) (is_done s t) (keeps s.element), count_kept sections r t keeps)

@@ -6,9 +6,8 @@ ghost use Rattle.dss_layout.specs.Terminals.{terminals_of};
 ghost use Rattle.fd_ladder.specs.Sections.{are_distinct, are_own_nodes, has_one_ground, joins_ground, line_section, transformer_section, sections_at, sections_from, source_nodes};
 
 use dss_layout::{
-    Element, ElementName, NodeName, NodeNames, Terminals, Transformer, terminal_nodes,
+    Connection, Element, ElementName, NodeName, NodeNames, Terminals, Transformer, terminal_nodes,
 };
-use dss_model::Connection;
 use indexmap::IndexMap;
 use std::alloc::{AllocError, Global};
 

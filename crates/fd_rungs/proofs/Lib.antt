@@ -1,0 +1,9 @@
+mod Products
+mod Drops
+mod Drawn
+mod Walks
+mod Steps
+mod Sweeping
+mod Rows
+mod Admittances
+mod Volts

@@ -1,0 +1,8 @@
+use Rattle.std.proofs.Common.{◌^◌, arith}
+use Rattle.std.proofs.lemmas.Int.{ints}
+use Rattle.fd_rungs.proofs.transformers.ohms_at_taps.Goals as goal
+
+pub returns-clause-small : goal.returns-clause-small
+returns-clause-small c =
+    let most = c.coefficient.ensures.within (2 ^ 100) (omega (arith, ints, c.requires)) in
+    omega (arith, ints, most)

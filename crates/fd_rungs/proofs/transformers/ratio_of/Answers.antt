@@ -1,0 +1,9 @@
+use Rattle.std.proofs.Common.{◌^◌, arith}
+use Rattle.std.proofs.lemmas.Int.{ints}
+use Rattle.fd_rungs.proofs.transformers.ratio_of.Goals as goal
+
+pub returns-clause-small : goal.returns-clause-small
+returns-clause-small c =
+    let most = c.coefficient.ensures.within (2 ^ 76)
+    (omega (arith, ints, c.requires.ratio, c.requires.over, c.unsigned_abs.ensures.value)) in
+    omega (arith, ints, most)

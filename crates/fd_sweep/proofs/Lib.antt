@@ -1,0 +1,5 @@
+mod Ready
+mod Placing
+mod Laddered
+mod Tapping
+mod Ends
