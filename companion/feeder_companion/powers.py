@@ -151,15 +151,13 @@ class State:
 
     def charging(self, it: Element, end: int) -> list[Phasor]:
         """The current that each phase's capacitance draws at one end of a line."""
-        _, capacitance = model_elements.line_matrices(it)
-        omega = model_elements.OMEGA[self.circuit.hertz]
         voltages = [self.voltage(node) for node in line_nodes(it, end)]
         found = []
-        for row in capacitance:
+        for row in model_elements.line_charging(it, self.circuit.hertz):
             current = GROUND
-            for entry, voltage in zip(row, voltages):
-                if entry:
-                    current = current + voltage.turned(Fraction(omega * entry, 2 * 10**27))
+            for (susceptance, denominator), voltage in zip(row, voltages):
+                if susceptance:
+                    current = current + voltage.turned(Fraction(susceptance, denominator))
             found.append(current)
         return found
 

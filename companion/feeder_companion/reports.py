@@ -27,6 +27,8 @@ STATUS_OF_FAULT = {
     "undecided": 11,
     "control limit": 12,
     "certificate": 13,
+    "no such node": 14,
+    "not radial": 15,
 }
 """The status with which the program ends at each fault."""
 
@@ -127,6 +129,36 @@ class Bank:
     is_closed: bool
 
 
+@dataclass(frozen=True, slots=True)
+class Pending:
+    """A control that still waits behind the last hour: the time at which it is due, in milliseconds, and its way."""
+
+    time: int
+    control: str
+    is_up: bool
+
+
+@dataclass(frozen=True, slots=True)
+class Short:
+    """The current that leaves a node into a short circuit, its radius, low and high, in microamperes."""
+
+    bus: str
+    node: int
+    re: int
+    im: int
+    radius: int
+    low: int
+    high: int
+
+
+@dataclass(frozen=True, slots=True)
+class Sweep:
+    """What a ladder sweep comes to: the word, and the fields behind it."""
+
+    answer: str
+    fields: tuple[str, ...]
+
+
 @dataclass(slots=True)
 class Round:
     """A solved and certified state, and the acts behind it."""
@@ -140,13 +172,19 @@ class Round:
 
 @dataclass(slots=True)
 class Settle:
-    """A snapshot (hour 0) or an hour of a day: its rounds, and where taps and banks rest behind the last."""
+    """A snapshot (hour 0) or an hour of a day: its rounds, where taps and banks rest behind the last, and what still waits.
+
+    That of a short circuit has its currents besides, and that of a sweep what the sweep comes to.
+    """
 
     number: int
     hour: int
     rounds: list[Round] = field(default_factory=list)
     taps: list[Tap] = field(default_factory=list)
     banks: list[Bank] = field(default_factory=list)
+    pending: list[Pending] = field(default_factory=list)
+    shorts: list[Short] = field(default_factory=list)
+    sweep: Sweep | None = None
     is_at_rest: bool = True
 
     @property
@@ -256,7 +294,7 @@ def add_record(report: Report, fields: list[str]) -> None:
     if word not in READERS:
         raise BadRecord("unknown record")
     count, read = READERS[word]
-    if len(rest) != count:
+    if count is not None and len(rest) != count:
         raise BadRecord(WRONG_COUNT)
     if word not in ("solution", "base") and not report.settles:
         raise BadRecord("no solution before it")
@@ -359,6 +397,36 @@ def add_bank(report: Report, fields: list[str]) -> None:
     report.settles[-1].banks.append(Bank(element(fields[0], "capacitor"), is_closed(fields[1])))
 
 
+def add_pending(report: Report, fields: list[str]) -> None:
+    if fields[2] not in ("up", "down"):
+        raise ValueError(fields[2])
+    it = Pending(decimals.parse(fields[0], 3), element(fields[1], "regcontrol", "capcontrol"), fields[2] == "up")
+    report.settles[-1].pending.append(it)
+
+
+def add_short(report: Report, fields: list[str]) -> None:
+    if not fields[0] or not fields[0].isprintable():
+        raise ValueError(fields[0])
+    radius, low, high = (size(it) for it in fields[4:])
+    if low > high:
+        raise BadRecord("low above high")
+    it = Short(fields[0], whole(fields[1]), volts(fields[2]), volts(fields[3]), radius, low, high)
+    report.settles[-1].shorts.append(it)
+
+
+SWEEPS = {"agrees": 3, "wide": 1, "apart": 1, "not converged": 1, "out of range": 2}
+"""What a sweep may come to, and the number of fields behind it."""
+
+
+def add_sweep(report: Report, fields: list[str]) -> None:
+    answer, *rest = fields or [""]
+    if answer not in SWEEPS:
+        raise ValueError(answer)
+    if len(rest) != SWEEPS[answer]:
+        raise BadRecord(WRONG_COUNT)
+    report.settles[-1].sweep = Sweep(answer, tuple(rest))
+
+
 def add_base(report: Report, fields: list[str]) -> None:
     base = size(fields[1])
     if not fields[0] or not fields[0].isprintable() or base == 0:
@@ -366,7 +434,7 @@ def add_base(report: Report, fields: list[str]) -> None:
     report.bases[fields[0]] = base
 
 
-READERS: dict[str, tuple[int, Callable[[Report, list[str]], None]]] = {
+READERS: dict[str, tuple[int | None, Callable[[Report, list[str]], None]]] = {
     "solution": (3, add_solution),
     "node": (9, add_node),
     "branch": (7, add_branch),
@@ -374,9 +442,12 @@ READERS: dict[str, tuple[int, Callable[[Report, list[str]], None]]] = {
     "act": (4, add_act),
     "tap": (2, add_tap),
     "bank": (2, add_bank),
+    "pending": (3, add_pending),
+    "short": (7, add_short),
+    "ladder": (None, add_sweep),
     "base": (2, add_base),
 }
-"""The number of fields behind a record's word, and what reads them."""
+"""The number of fields behind a record's word, where it is always the same, and what reads them."""
 
 
 def mark_rest(report: Report) -> None:

@@ -93,6 +93,9 @@ def report_tables(report: Report, bases: Bases | None) -> list[Table]:
         magnitudes_table(report),
         acts_table(report),
         positions_table(report),
+        pending_table(report),
+        shorts_table(report),
+        sweeps_table(report),
         bases_table(report, bases),
         fault_table(report),
     ]
@@ -209,6 +212,39 @@ def positions_table(report: Report) -> Table:
         when = [str(settle.number), str(settle.hour)]
         table.rows += [[*when, it.control, show(it.tap, 5), ""] for it in settle.taps]
         table.rows += [[*when, it.capacitor, "", WORDS[it.is_closed]] for it in settle.banks]
+    return table
+
+
+def pending_table(report: Report) -> Table:
+    """Controls that still wait behind the last hour of a Solve."""
+    columns = {"settle": PRINTED, **dict.fromkeys(("due_s", "control", "way"), CERTIFIED)}
+    table = Table("pending", columns)
+    for settle in report.settles:
+        waiting = [[show(it.time, 3), it.control, "up" if it.is_up else "down"] for it in settle.pending]
+        table.rows += [[str(settle.number), *it] for it in waiting]
+    return table
+
+
+def shorts_table(report: Report) -> Table:
+    """Currents of short circuits."""
+    columns = {
+        **dict.fromkeys(("bus", "node", "re_a", "im_a"), PRINTED),
+        **dict.fromkeys(("radius_a", "low_a", "high_a"), CERTIFIED),
+    }
+    table = Table("shorts", columns)
+    for settle in report.settles:
+        for it in settle.shorts:
+            amperes = [show(value, 6) for value in (it.re, it.im, it.radius, it.low, it.high)]
+            table.rows.append([it.bus, str(it.node), *amperes])
+    return table
+
+
+def sweeps_table(report: Report) -> Table:
+    """What ladder sweeps come to."""
+    table = Table("sweeps", {"settle": PRINTED, **dict.fromkeys(("answer", "fields"), CERTIFIED)})
+    for settle in report.settles:
+        if settle.sweep is not None:
+            table.rows.append([str(settle.number), settle.sweep.answer, " ".join(settle.sweep.fields)])
     return table
 
 

@@ -64,6 +64,22 @@ class Reports(Folder):
         self.assertEqual(report.settles[0].last.magnitudes[0].element, "load.692")
         self.assertEqual(report.bases["634"], 480000)
 
+    def test_what_waits_is_read(self):
+        report = parse_report((FIRST + "pending,4000.000,regcontrol.a,up\npending,4000.500,capcontrol.k,down\n").encode())
+        waiting = [(it.time, it.control, it.is_up) for it in report.settles[0].pending]
+        self.assertEqual(waiting, [(4000000, "regcontrol.a", True), (4000500, "capcontrol.k", False)])
+
+    def test_short_circuits_are_read(self):
+        record = "short,b,1,1000.000000,-0.500000,0.000002,1000.000001,1000.000005\n"
+        it = parse_report((FIRST + record).encode()).settles[0].shorts[0]
+        self.assertEqual((it.bus, it.node, it.re, it.im), ("b", 1, 1000000000, -500000))
+        self.assertEqual((it.radius, it.low, it.high), (2, 1000000001, 1000000005))
+
+    def test_sweeps_are_read(self):
+        for record in ("agrees,9,0.000000,0.000000", "wide,b.1 re", "not converged,150", "out of range,b.1 re,11"):
+            sweep = parse_report((FIRST + f"ladder,{record}\n").encode()).settles[0].sweep
+            self.assertEqual((sweep.answer, *sweep.fields), tuple(record.split(",")))
+
     def test_a_fault_ends_a_report_and_says_its_status(self):
         report = parse_report((FIRST + 'fault,script,"a,b.dss",3,unknown class\n').encode())
         self.assertEqual(report.fault, Fault("script", ("a,b.dss", "3", "unknown class")))

@@ -100,7 +100,7 @@ def nano(v):
 
 class Control:
     """One control: `sample` is an interval, `verdict` the direction and the steps at one value of it."""
-    latest = None        # the direction of its latest act in this settle
+    latest = None        # the direction of its latest act in this settle, in mode time in this Solve
 
     def __init__(self, key, e, circuit):
         self.name, self.e, self.circuit = '%s.%s' % key, e, circuit
@@ -311,10 +311,18 @@ class Limit(Exception):
 
 
 class Queue:
-    """At most one entry for each control: its time, its number in the order of queueing, and its direction."""
+    """At most one entry for each control: its time, its number in the order of queueing, and its direction.
 
-    def __init__(self, now, clock):
-        self.now, self.clock, self.entries, self.number = now, clock, {}, 0
+    In mode time it lives through the hours of a Solve: an entry acts once its time is reached, and its act has the
+    hour's time. Else it begins anew in each hour, each entry is due, and its act has the entry's own time.
+    """
+
+    def __init__(self, is_timed, clock):
+        self.is_timed, self.clock, self.entries, self.number = is_timed, clock, {}, 0
+
+    def at(self, now):
+        self.now, self.acts = now, 0
+        return self
 
     def react(self, control, verdict):
         way, steps = verdict
@@ -326,13 +334,19 @@ class Queue:
             self.entries[control] = (control.due(way, self.now, self.clock), self.number, way)
             self.number += 1
 
+    def is_due(self):
+        return any(not self.is_timed or time <= self.now for time, _, _ in self.entries.values())
+
     def nearest(self):
-        """Takes out the entries of the least time, in the order of queueing."""
-        least = min(e[0] for e in self.entries.values())
-        out = sorted(((e, c) for c, e in self.entries.items() if e[0] == least), key=lambda p: p[0][1])
-        for _, c in out:
+        """Takes out the entries of the least time, in the order of queueing, each with the time of its act."""
+        least = min(time for time, _, _ in self.entries.values())
+        found = [c for c, entry in self.ordered() if entry[0] == least]
+        for c in found:
             del self.entries[c]
-        return [(e[0], c) for e, c in out]
+        return [(self.now if self.is_timed else least, c) for c in found]
+
+    def ordered(self):
+        return sorted(self.entries.items(), key=lambda it: it[1][:2])
 
 
 def seconds(ms):
@@ -349,32 +363,41 @@ def act_line(time, number, name, steps, after):
     return 'act %d %d %d' % (time, number, steps)
 
 
-def settle(circuit, limit, off, now, clock, solve, text=act_record):
-    """Solves, samples and acts until nothing is due. `solve(round)` gives a certified state, `text` what an act is printed as.
+def settle(controls, queue, limit, solve, text=act_record):
+    """Solves, samples and acts until nothing is due. `solve(round)` gives a certified state, `text` prints an act.
 
-    Gives the texts of each round, one after the other, and raises what ends it: Undecided, or Limit.
+    Gives the texts of each round, one after the other, and raises what ends it: Undecided, or Limit. Without controls
+    to sample it is one solve.
     """
-    controls, queue, done = controls_of(circuit), Queue(now, clock), 0
     while True:
-        certified, records = solve(done)
+        certified, records = solve(queue.acts)
         yield records
-        if off:
-            return
         ball = Ball(certified)
         verdicts = [c.decide(ball) for c in controls]
         for c, v in zip(controls, verdicts):
             queue.react(c, v)
-        if not queue.entries:
+        if not queue.is_due():
             return
-        if done == limit:
-            raise Limit(done)
+        if queue.acts == limit:
+            raise Limit(queue.acts)
         wanted = dict(zip(controls, verdicts))
         acts = []
         for time, c in queue.nearest():
-            signed, after = c.act(*wanted[c], time, clock)
+            signed, after = c.act(*wanted[c], time, queue.clock)
             acts.append(text(time, controls.index(c), c.name, signed, after))
         yield acts
-        done += 1
+        queue.acts += 1
+
+
+def hours(circuit, options):
+    """The hours of a Solve, each with its time, its controls and its queue. A snapshot is hour 0 at time 0."""
+    clock, is_timed = {}, options['controlmode'] == 'time'
+    controls, queue = controls_of(circuit), Queue(is_timed, clock)
+    for hour in range(1, options['number'] + 1) if options['mode'] == 'daily' else [0]:
+        if not is_timed:
+            controls, queue = controls_of(circuit), Queue(is_timed, clock)
+        sampled = [] if options['controlmode'] == 'off' else controls
+        yield hour, sampled, queue.at(3600000 * max(hour - 1, 0))
 
 
 def positions(circuit):
@@ -383,3 +406,9 @@ def positions(circuit):
     out += ['bank,capacitor.%s,%s' % (k[1], 'closed' if e['now'] else 'open')
             for k, e in circuit.items() if k[0] == 'capacitor']
     return out
+
+
+def pending(queue):
+    """The records of the entries that the last hour left."""
+    return ['pending,%s,%s,%s' % (seconds(entry[0]), c.name, 'up' if entry[2] == RAISE else 'down')
+            for c, entry in queue.ordered()]

@@ -83,7 +83,47 @@ def line_nodes(bus, phases):
     return [(name, n) for n in numbers]
 
 
+def source_nodes(e):
+    name, numbers = e['bus1']
+    if e['phases'] == 3:
+        return [(name, n) for n in three(numbers)]
+    if len(numbers) > 2:
+        raise Refused('wrong count')
+    if len(numbers) == 2 and numbers[1]:
+        raise Refused('unsupported')
+    return [(name, (numbers or [1])[0])]
+
+
+def line_ends(e):
+    return [line_nodes(e['bus1'], e['phases']), line_nodes(e['bus2'], e['phases'])]
+
+
+def mentions(cls, e):
+    """The nodes that an element mentions, in order; ground may be among them."""
+    if cls == 'vsource':
+        return source_nodes(e)
+    if cls == 'line':
+        return sum(line_ends(e), [])
+    if cls == 'transformer':
+        return sum((mention(e['buses'][w], e['phases'], e['conns'][w]) for w in (0, 1)), [])
+    return mention(e['bus1'], e['phases'], e['conn']) if cls in ('capacitor', 'load') else []
+
+
 # ---------------------------------------------------------------- the data of elements
+
+def source_volts(e):
+    """The two parts of the voltage of each phase."""
+    ph = e['phases']
+    volts = near(e['basekv'] * e['pu'], ONE) if ph == 1 else near(e['basekv'] * e['pu'] * T15, ONE * R3)
+    return [unit(e['angle'] - 120 * k, volts) for k in range(ph)]
+
+
+def source_impedance(e):
+    """The impedance of a source, as rows of (r, x, denominator) in ohm."""
+    r1, x1, r0, x0 = source_ohms(e)
+    ph = range(e['phases'])
+    return [[(entry(r1, r0, k, m) * 1000 // 3, entry(x1, x0, k, m) * 1000 // 3, 10 ** 12) for m in ph] for k in ph]
+
 
 def source_ohms(e):
     if e['ohms']:
@@ -112,43 +152,71 @@ def entry(v1, v0, i, j):
     return 2 * v1 + v0 if i == j else v0 - v1
 
 
-def line_matrices(e):
-    n = e['phases']
+def unit_ratio(e):
+    """The unit of a line's length over that of its code, as a fraction."""
     lu, cu = UNITS[e['units']], UNITS[e['codeunits'] or 'none']
-    if e['own'] or lu is None or cu is None:
-        lu = cu = 1
+    return (1, 1) if e['own'] or lu is None or cu is None else (lu, cu)
+
+
+def symmetric(v1, v0, n):
+    """The entries of a matrix in sequence form, each (numerator, denominator)."""
+    v1 = v1 or 0
+    v0 = v1 if v0 is None else v0
+    return [[(entry(v1, v0, i, j), 3) for j in range(n)] for i in range(n)]
+
+
+def whole_matrix(m, n):
+    """The entries of a matrix as the script gives it; one that isn't given is zero."""
+    if m is not None and len(m) != n:
+        raise Refused('wrong count')
+    return [[(m[i][j] if m else 0, 1) for j in range(n)] for i in range(n)]
+
+
+def line_impedance(e):
+    """The impedance of a line, as rows of (r, x, denominator) in ohm."""
+    n, (lu, cu) = e['phases'], unit_ratio(e)
     if e['zform'] is None:
         raise Refused('no impedance')
-    length = e['length']
-    z = []
     if e['zform'] == 'sequence':
-        r1, x1 = e['r1'] or 0, e['x1'] or 0
-        r0 = r1 if e['r0'] is None else e['r0']
-        x0 = x1 if e['x0'] is None else e['x0']
-        get = lambda i, j: (entry(r1, r0, i, j), entry(x1, x0, i, j), 3)
+        parts = symmetric(e['r1'], e['r0'], n), symmetric(e['x1'], e['x0'], n)
     else:
-        for m in (e['rmatrix'], e['xmatrix']):
-            if m is not None and len(m) != n:
-                raise Refused('wrong count')
-        get = lambda i, j: (e['rmatrix'][i][j] if e['rmatrix'] else 0, e['xmatrix'][i][j] if e['xmatrix'] else 0, 1)
-    for i in range(n):
-        row = []
-        for j in range(n):
-            r, x, d = get(i, j)
-            row.append((r * length * lu // (d * cu * 10 ** 6), x * length * lu // (d * cu * 10 ** 6)))
-        z.append(row)
+        parts = whole_matrix(e['rmatrix'], n), whole_matrix(e['xmatrix'], n)
+
+    def total(part, i, j):
+        v, d = part[i][j]
+        return v * e['length'] * lu // (d * cu * 10 ** 6)
+    return [[(total(parts[0], i, j), total(parts[1], i, j), 10 ** 12) for j in range(n)] for i in range(n)]
+
+
+def line_charging(e, hertz):
+    """Half the charging of a line, as rows of (susceptance, denominator) in siemens."""
+    n, (lu, cu) = e['phases'], unit_ratio(e)
     if e['cform'] is None:
-        cget = lambda i, j: (0, 1)
+        c = whole_matrix(None, n)
     elif e['cform'] == 'sequence':
-        c1 = e['c1'] or 0
-        c0 = c1 if e['c0'] is None else e['c0']
-        cget = lambda i, j: (entry(c1, c0, i, j), 3)
+        c = symmetric(e['c1'], e['c0'], n)
     else:
-        if len(e['cmatrix']) != n:
-            raise Refused('wrong count')
-        cget = lambda i, j: (e['cmatrix'][i][j], 1)
-    c = [[cget(i, j)[0] * length * lu // (cget(i, j)[1] * cu * 10 ** 12) for j in range(n)] for i in range(n)]
-    return z, c
+        c = whole_matrix(e['cmatrix'], n)
+    return [[(OMEGA[hertz] * (v * e['length'] * lu // (d * cu * 10 ** 12)), 2 * 10 ** 27) for v, d in row] for row in c]
+
+
+def nominals(e):
+    """The nominal voltages of the windings of a transformer."""
+    return [u_of(e['kvs'][w], e['phases'], e['conns'][w]) for w in (0, 1)]
+
+
+def ratio(e):
+    """The ratio of a transformer at its taps, as a fraction."""
+    u, (t1, t2) = nominals(e), e['at']
+    return u[1] * t2, u[0] * t1
+
+
+def leakage(e):
+    """The impedance of a phase of a transformer at its taps, as (r, x, denominator) in ohm."""
+    def at_unity(percent):
+        return percent * nominals(e)[1] ** 2 * e['phases'] // (e['kvas'][0] * 10 ** 5)
+    t2 = e['at'][1]
+    return at_unity(e['rs'][0] + e['rs'][1]) * t2 ** 2, at_unity(e['xhl']) * t2 ** 2, 10 ** 22
 
 
 def unit(angle, volts):
@@ -166,8 +234,28 @@ def unit(angle, volts):
     return part(a), part(a - 90)
 
 
+def limits_of(load):
+    """The voltages below and above which a load is an impedance."""
+    vn = u_of(load['kv'], load['phases'], load['conn'])
+    return near(load['vminpu'] * vn, ONE), near(load['vmaxpu'] * vn, ONE)
+
+
+def phase_power(circuit, load, hour):
+    """P and Q of a phase of a load at an hour; a snapshot is hour 0."""
+    point, phases = ONE, load['phases']
+    if hour and load['daily']:
+        shape = circuit['loadshape', load['daily']]
+        point = shape['mult'][:shape['npts']][(hour - 1) % shape['npts']]
+    p = near(load['kw'] * point, 1000 * ONE * phases)
+    if load['bykvar']:
+        return p, near(load['kvar'] * point, 1000 * ONE * phases)
+    d = load['pf'] ** 2
+    q = isqrt(p * p * (10 ** 18 - d) // d)
+    return p, -q if p * load['pf'] < 0 else q
+
+
 def part_loads(load, p, q):
-    """The part loads of a phase with this power, each a model with its P and Q: of model 8 the shares of models 2, 5 and 1."""
+    """The part loads of a phase with this power, as models with P and Q: of model 8 the shares of models 2, 5 and 1."""
     if load['model'] != 8:
         return [(load['model'], p, q)]
     a, b = load['zipv'][:3], load['zipv'][3:]

@@ -187,6 +187,11 @@ def conn(text):
     return c
 
 
+def supported(holds):
+    if not holds:
+        raise Refused('unsupported')
+
+
 def check(v, lo, hi):
     if not lo <= v <= hi:
         raise Refused('value out of range')
@@ -221,13 +226,13 @@ Z = ('r1', 'x1', 'r0', 'x0')
 
 def set_line_data(e, name, value, grouped):
     if name in Z:
-        e[name] = check(one(value, grouped), 0, 10 ** 13)
+        e[name] = one(value, grouped)
         e['zform'] = 'sequence'
     elif name in ('rmatrix', 'xmatrix'):
         e[name] = matrix(value, grouped)
         e['zform'] = 'matrix'
     elif name in ('c1', 'c0'):
-        e[name] = check(one(value, grouped), 0, 10 ** 15)
+        e[name] = one(value, grouped)
         e['cform'] = 'sequence'
         return True
     elif name == 'cmatrix':
@@ -243,10 +248,14 @@ def set_line_data(e, name, value, grouped):
 LINE_IGNORED = ('normamps', 'emergamps', 'faultrate', 'pctperm', 'repair')
 
 
+WITH_FREQUENCY = ('vsource', 'linecode', 'line', 'transformer', 'capacitor', 'load')
+
+
 def set_pair(circuit, cls, e, name, value, grouped):
     name = name.lower()
-    if name == 'basefreq':
-        one(value, grouped)
+    check_range(cls, name, value, grouped)
+    if name == 'basefreq' and cls in WITH_FREQUENCY:
+        e['basefreq'] = one(value, grouped)
         return
     if cls == 'vsource':
         if name == 'bus1':
@@ -285,7 +294,7 @@ def set_pair(circuit, cls, e, name, value, grouped):
         elif name == 'phases':
             e['phases'] = whole(value, grouped)
         elif name == 'length':
-            e['length'] = check(one(value, grouped), 0, 10 ** 15)
+            e['length'] = one(value, grouped)
         elif name == 'units':
             e['units'] = word(value, grouped).lower()
             if e['units'] not in UNITS:
@@ -314,7 +323,7 @@ def set_pair(circuit, cls, e, name, value, grouped):
             if one(value, grouped) != 2 * ONE:
                 raise Refused('unsupported')
         elif name == 'wdg':
-            e['wdg'] = check(whole(value, grouped), 1, 2)
+            e['wdg'] = whole(value, grouped)
         elif name == 'bus':
             e['buses'][w] = bus(word(value, grouped))
         elif name == 'conn':
@@ -347,7 +356,11 @@ def set_pair(circuit, cls, e, name, value, grouped):
         elif name == 'taps':
             e['taps'] = [near(v, 10 ** 4) for v in array(value, grouped)]
             e['at'] = list(e['taps'])
-        elif name in ('leadlag', '%noloadloss', '%imag', 'bank', 'sub', 'subname', 'ppm_antifloat'):
+        elif name == 'leadlag':
+            supported(word(value, grouped).lower() in ('lag', 'ansi'))
+        elif name in ('%noloadloss', '%imag'):
+            supported(one(value, grouped) == 0)
+        elif name in ('bank', 'sub', 'subname', 'ppm_antifloat'):
             pass
         else:
             raise Refused('unknown property')
@@ -360,6 +373,8 @@ def set_pair(circuit, cls, e, name, value, grouped):
             e['phases'] = whole(value, grouped)
         elif name in ('kvar', 'kv'):
             e[name] = one(value, grouped)
+        elif name == 'bus2':
+            raise Refused('unsupported')
         elif name == 'conn':
             e['conn'] = conn(word(value, grouped))
         elif name == 'numsteps':
@@ -400,13 +415,13 @@ def set_pair(circuit, cls, e, name, value, grouped):
             e['kvar'] = one(value, grouped)
             e['bykvar'] = True
         elif name == 'kw':
-            e['kw'] = check(one(value, grouped), -300000 * ONE, 300000 * ONE)
+            e['kw'] = one(value, grouped)
         elif name == 'kv':
-            e['kv'] = check(one(value, grouped), ONE // 100, 1000 * ONE)
+            e['kv'] = one(value, grouped)
         elif name == 'vminpu':
-            e['vminpu'] = check(one(value, grouped), 4 * ONE // 10, ONE)
+            e['vminpu'] = one(value, grouped)
         elif name == 'vmaxpu':
-            e['vmaxpu'] = check(one(value, grouped), ONE, 2 * ONE)
+            e['vmaxpu'] = one(value, grouped)
         elif name == 'daily':
             e['daily'] = word(value, grouped).lower()
         elif name in ('class', 'numcust'):
@@ -419,9 +434,9 @@ def set_pair(circuit, cls, e, name, value, grouped):
         if name == 'npts':
             e['npts'] = whole(value, grouped)
         elif name == 'mult':
-            e['mult'] = [check(v, 0, 1000 * ONE) for v in array(value, grouped)]
+            e['mult'] = array(value, grouped)
         elif name == 'interval':
-            pass
+            supported(one(value, grouped) == ONE)
         else:
             raise Refused('unknown property')
 
@@ -469,11 +484,12 @@ def column(data):
 
 
 OPTIONS = dict(mode='snap', number=1, maxiterations=15, tolerance=100000, hertz=60, controlmode='static',
-               maxcontroliter=10)
+               maxcontroliter=10, voltagebases=())
 
 
 def set_option(options, name, value, grouped):
     name = (name or '').lower()
+    check_range('option', name, value, grouped)
     if name == 'mode':
         w = word(value, grouped).lower()
         options['mode'] = 'daily' if w == 'daily' else 'snap'
@@ -482,26 +498,28 @@ def set_option(options, name, value, grouped):
     elif name == 'number':
         options['number'] = whole(value, grouped)
     elif name == 'maxiterations':
-        options['maxiterations'] = check(whole(value, grouped), 1, 1000)
+        options['maxiterations'] = whole(value, grouped)
     elif name == 'tolerance':
-        options['tolerance'] = check(one(value, grouped), 1, 10 ** 8)
+        options['tolerance'] = one(value, grouped)
     elif name == 'defaultbasefrequency':
         options['hertz'] = whole(value, grouped)
     elif name == 'controlmode':
         options['controlmode'] = word(value, grouped).lower()
     elif name == 'maxcontroliter':
-        options[name] = check(whole(value, grouped), 0, 100)
-    elif name in ('stepsize', 'voltagebases'):
-        pass
+        options[name] = whole(value, grouped)
+    elif name == 'voltagebases':
+        options[name] = array(value, grouped)
+    elif name == 'stepsize':
+        supported(word(value, grouped).lower() in ('1h', '60m', '3600'))
     else:
         raise Refused('unknown property')
 
 
 class Script:
-    """Runs a script; calls `solve(circuit, options)` at each Solve."""
+    """Runs a script; calls `solve(circuit, options)` at each Solve, and `bases` so at each CalcVoltageBases."""
 
-    def __init__(self, files, solve):
-        self.files, self.solve = files, solve
+    def __init__(self, files, solve, bases=lambda circuit, options: None):
+        self.files, self.solve, self.bases = files, solve, bases
         self.circuit, self.options, self.last, self.has = {}, dict(OPTIONS), None, False
         self.place = None
 
@@ -619,7 +637,11 @@ class Script:
             if fault == 'absent':
                 raise Refused('absent file')
             return fault
-        elif verb in ('calcvoltagebases', 'calcv', 'show', 'export', 'plot', 'visualize', 'buscoords'):
+        elif verb in ('calcvoltagebases', 'calcv'):
+            if not self.has:
+                raise Refused('no circuit')
+            self.bases(self.circuit, self.options)
+        elif verb in ('show', 'export', 'plot', 'visualize', 'buscoords'):
             pass
         else:
             raise Refused('unknown command')
@@ -632,3 +654,7 @@ class Script:
         if key not in self.circuit:
             raise Refused('unknown name')
         self.pairs(key, pairs)
+
+
+# `ranges` stands on the forms of values above.
+from ranges import check_range  # noqa: E402

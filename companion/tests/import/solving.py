@@ -122,14 +122,15 @@ def state(net: Any) -> list[complex]:
 
 def voltages(text: str, controls_off: bool = True) -> dict[str, complex]:
     """The voltages of the last Solve of a script, in volts by `bus.node`; each row is met within a thousandth."""
-    import feeder
+    import certified
+    import network
     import script
 
     found: dict[str, complex] = {}
 
     def solve(circuit: Any, options: Any) -> None:
         assert not controls_off or options["controlmode"] == "off" or not any(k[0] == "regcontrol" for k in circuit)
-        net = feeder.Network(circuit, options["hertz"], 1 if options["mode"] == "daily" else 0)
+        net = network.Network(circuit, options["hertz"], 1 if options["mode"] == "daily" else 0)
         values = state(net)
         units = [u for v in values for u in (round(v.real * 1e6), round(v.imag * 1e6))]
         for load in net.loads:
@@ -137,7 +138,7 @@ def voltages(text: str, controls_off: bool = True) -> dict[str, complex]:
                 first = values[load.f] if load.f is not None else 0j
                 second = values[load.s] if load.s is not None else 0j
                 units.append(round(abs(first - second) * 1e6))
-        worst = max(feeder.mismatches(net, units))
+        worst = max(certified.mismatches(net, units))
         assert worst <= 1000, f"a row is missed by {worst / 1e6}"
         found.clear()
         found.update({f"{bus}.{node}": v for (bus, node), v in zip(net.nodes, values)})
