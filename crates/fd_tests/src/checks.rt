@@ -9,11 +9,6 @@ pub(crate) fn same<T: PartialEq + Debug + Drop>(rt: &impl Abort, found: T, due: 
     assert_eq!(rt; found, due);
 }
 
-/// Asserts that what was found at a text is what is due.
-pub(crate) fn same_at<T: PartialEq + Debug + Drop>(rt: &impl Abort, text: &str, found: T, due: T) {
-    assert_eq!(rt; found, due, "at {text}");
-}
-
 /// Asserts what is to hold.
 pub fn holds(rt: &impl Abort, is_so: bool)
     ensures { IsTrue is_so }
