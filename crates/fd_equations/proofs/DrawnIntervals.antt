@@ -30,7 +30,7 @@ use Rattle.fd_pattern.specs.Conditions.{IsPart}
 use Rattle.fd_equations.specs.Enclosure.{with_current, with_drawn, with_magnitude}
 use Rattle.fd_equations.specs.PartLoads.{current_count, current_counts}
 use Rattle.fd_pattern.specs.Terminals.{IsConnected, count_magnitude, count_node, count_terminal, imaginary_of, magnitude_in, real_of}
-use Rattle.fd_equations.proofs.DrawnSizes.{excess_small, in_phase_small, quadrature_small}
+use Rattle.fd_pattern.proofs.CallerLemmas.{excess_small, in_phase_small, quadrature_small}
 use Rattle.fd_equations.proofs.LoadSums.{no_load, voltages}
 use Rattle.fd_equations.proofs.Widths.{Narrow, narrow_outward, narrow_sum, wider}
 

@@ -15,7 +15,6 @@ pub mod Sizes
 pub mod Networks
 pub mod AtTerminals
 pub mod CallerLemmas
-pub mod DrawnSizes
 pub mod LoadSums
 pub mod Exchanging
 pub mod DrawnIntervals

@@ -19,7 +19,7 @@ use Rattle.fd_pattern.specs.Conditions.{IsPart}
 use Rattle.fd_equations.specs.PartLoads.{load_row, loads_row}
 use Rattle.fd_pattern.specs.Terminals.{IsConnected, at_terminal, imaginary_of, magnitude_in, real_of}
 use Rattle.fd_equations.proofs.AtTerminals.{terminal_least}
-use Rattle.fd_equations.proofs.DrawnSizes.{excess_small, in_phase_small, quadrature_small}
+use Rattle.fd_pattern.proofs.CallerLemmas.{excess_small, in_phase_small, quadrature_small}
 use Rattle.fd_equations.proofs.Sizes.{part_size}
 
 -- a part load for places outside a list

@@ -3,11 +3,12 @@ use Rattle.std.proofs.Common.{◌≡◌, ℕ, ◌≤◌, ◌^◌, ℤ, pos, neg_
 use Rattle.std.specs.Int.{w128}
 use Rattle.std.proofs.Math.Nat.{mul-le-mul}
 use Rattle.std.proofs.lemmas.Bool.{leb-true}
-use Rattle.std.proofs.lemmas.Int.{ints, unsigned_abs-mul, to_z-of_z, fits_signed_from_abs}
+use Rattle.std.proofs.lemmas.Int.{ints, unsigned_abs-mul}
 use Rattle.fd_mat.specs.fd_exact.Rounding.{near_div}
 use Rattle.fd_mat.specs.fd_exact.Nearest.{near_nearest}
 use Rattle.fd_pattern.specs.fd_system.Contributions.{AreSmall}
 use Rattle.fd_pattern.specs.Conditions.{IsPart}
+pub use Rattle.fd_pattern.proofs.CallerLemmas.{kept_by}
 
 pub near_size : (z : ℤ) → nat_abs z ≤ 2 ^ 94 → nat_abs (near_div z (2 ^ 40)) ≤ 2 ^ 54
 near_size z h = let n = near_nearest z (2 ^ 40) (lit< tt) in omega (arith, ints, n.close)
@@ -20,10 +21,6 @@ part_size z h = omega (arith, ints, h.0, h.1)
 
 pub product_size : (u z : ℤ) → nat_abs u ≤ 2 ^ 54 → nat_abs z ≤ 2 ^ 40 → nat_abs (u *ℤ z) ≤ 2 ^ 94
 product_size u z h k = let e = unsigned_abs-mul u z in let b = mul-le-mul h k in omega arith
-
--- a number that is not large is what an i128 keeps of it
-pub kept_by : (z : ℤ) → nat_abs z ≤ 2 ^ 126 → to_z w128 (of_z w128 z) ≡ z
-kept_by z h = to_z-of_z w128 z (fits_signed_from_abs w128 z (omega arith))
 
 pub kept_more : (a b : ℤ) → nat_abs a ≤ 2 ^ 120 → nat_abs b ≤ 2 ^ 54 → to_z w128 (of_z w128 (a +ℤ to_z w128 (of_z w128 b))) ≡ (a +ℤ b)
 kept_more a b h k = rw (kept_by b (omega arith)) (kept_by (a +ℤ b) (omega (arith, ints)))

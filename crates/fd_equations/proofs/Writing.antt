@@ -1,70 +1,99 @@
--- A square matrix, row by row, into which the cells at places are written.
-use Rattle.std.proofs.Common.{◌≡◌, ◌∙◌, ℕ, ◌+◌, ◌*◌, ◌<◌, ◌≤◌, ℤ, pos, List, length, set, arith, ap, sym, subst, inl, inr}
+-- A square of entries into which the cells at places are written.
+use Rattle.std.proofs.Common.{◌≡◌, ◌∙◌, ℕ, ◌+◌, ◌*◌, ◌<◌, ◌≤◌, ◌≢◌, ◌==◌, ◌&&◌, if◌then◌else◌, Bool, true, false, cond, refl, ℤ, pos, List, length, set, arith, ap, sym, subst, inl, inr}
 use Rattle.std.specs.List.{Contains}
 use Rattle.std.proofs.lemmas.Bool.{cases_eq}
 use Rattle.std.proofs.lemmas.Nat.{same_from_place}
-use Rattle.std.proofs.lemmas.List.{get_or-set_same, get_or-set_other, length-set}
+use Rattle.std.proofs.lemmas.List.{get_or-set_same, get_or-set_other}
 use Rattle.std.proofs.lemmas.List.Elements.{Contains-get_or}
-use Rattle.fd_mat.specs.fd_exact.States.{cell, part}
+use Rattle.fd_mat.specs.fd_exact.States.{cell, part, table}
 use Rattle.fd_mat.specs.fd_exact.Tables.{room}
+use Rattle.fd_mat.specs.Rows.{with_entry}
+use Rattle.fd_mat.specs.Squares.{with_entry-table}
 use Rattle.fd_equations.specs.declared.cells.Cell.{Cell}
 use Rattle.fd_equations.specs.Amounts.{cell_at}
 use Rattle.fd_pattern.specs.Patterns.{IsRising, IsSlot, key}
 use Rattle.fd_pattern.proofs.CallerLemmas.{only_slot}
 
 -- the first k cells were written, and there is 0 elsewhere
-pub record IsWritten (n : ℕ) (ps : List (ℕ × ℕ)) (cells : List Cell) (dense : List ℤ) (k : ℕ) : Type 0 where
-  pub square : length dense ≡ n * n
-  pub here : (row col j : ℕ) → row < n → col < n → j < k → IsSlot ps row col j → cell dense n row col ≡ (cell_at cells j).units
-  pub none : (row col : ℕ) → row < n → col < n → ((j : ℕ) → j < k → IsSlot ps row col j → ⊥) → cell dense n row col ≡ pos 0
+pub record IsWritten (n : ℕ) (ps : List (ℕ × ℕ)) (cells : List Cell) (at : ℕ → ℕ → ℤ) (k : ℕ) : Type 0 where
+  pub here : (row col j : ℕ) → row < n → col < n → j < k → IsSlot ps row col j → at row col ≡ (cell_at cells j).units
+  pub none : (row col : ℕ) → row < n → col < n → ((j : ℕ) → j < k → IsSlot ps row col j → ⊥) → at row col ≡ pos 0
 
-pub nothing_written : (n : ℕ) (ps : List (ℕ × ℕ)) (cells : List Cell) (dense : List ℤ) → length dense ≡ n * n
-    → ((k : ℕ) → part dense k ≡ pos 0) → IsWritten n ps cells dense 0
-nothing_written n ps cells dense e zero = record {
-  square = e;
-  here = λ row col j h l lt. absurd (omega arith);
-  none = λ row col h l none. zero (row * n + col);
-}
+pub nothing_written : (n : ℕ) (ps : List (ℕ × ℕ)) (cells : List Cell) (at : ℕ → ℕ → ℤ)
+    → ((row col : ℕ) → at row col ≡ pos 0) → IsWritten n ps cells at 0
+nothing_written n ps cells at zero = record { here = λ row col j h l lt. absurd (omega arith); none = λ row col h l none. zero row col }
 
-module _ (n : ℕ) (ps : List (ℕ × ℕ)) (cells : List Cell) (dense : List ℤ) (k : ℕ) (rising : IsRising ps)
-    (in_range : k < length ps) (row_in : (key ps k).0 < n) (col_in : (key ps k).1 < n)
-    (h : IsWritten n ps cells dense k) where
-  abbrev at : ℕ
-  at = (key ps k).0 * n + (key ps k).1
+-- a list of rows into which the first k cells were written
+pub record IsPut (n : ℕ) (ps : List (ℕ × ℕ)) (cells : List Cell) (rows : List (List ℤ)) (k : ℕ) : Type 0 where
+  pub at : ℕ → ℕ → ℤ
+  pub rows_are : rows ≡ table n n at
+  pub written : IsWritten n ps cells at k
 
-  pub place_in : at < length dense
-  place_in = subst (λ m. at < m) (sym h.square) (room n n (key ps k).0 (key ps k).1 row_in col_in)
+module _ (n : ℕ) (ps : List (ℕ × ℕ)) (cells : List Cell) (k : ℕ) (rising : IsRising ps) (in_range : k < length ps)
+    (row_in : (key ps k).0 < n) (col_in : (key ps k).1 < n) where
+  module _ (at new : ℕ → ℕ → ℤ) (h : IsWritten n ps cells at k)
+      (is : new (key ps k).0 (key ps k).1 ≡ (cell_at cells k).units)
+      (other : (row col : ℕ) → row < n → col < n → (((key ps k).0 ≡ row) × ((key ps k).1 ≡ col) → ⊥) → new row col ≡ at row col) where
+    one_written : IsWritten n ps cells new (k + 1)
+    one_written = record {
+      here = λ row col j a b lt s. elim (cases_eq j k) [
+        | inl e ↦
+            let r : (key ps k).0 ≡ row = ap (λ m. (key ps m).0) (sym e) ∙ s.row_is in
+            let c : (key ps k).1 ≡ col = ap (λ m. (key ps m).1) (sym e) ∙ s.col_is in
+            (λ i. new (sym r i) (sym c i)) ∙ is ∙ ap (λ m. (cell_at cells m).units) (sym e)
+        | inr ne ↦ other row col a b
+            (λ (f, g). ne (only_slot ps row col j k rising s (record { in_range = in_range; row_is = f; col_is = g })))
+            ∙ h.here row col j a b (omega arith) s
+      ];
+      none = λ row col a b away.
+          other row col a b (λ (f, g). away k (omega arith) (record { in_range = in_range; row_is = f; col_is = g }))
+          ∙ h.none row col a b (λ j lt. away j (omega arith));
+    }
 
-  pub one_written : (z : ℤ) → z ≡ (cell_at cells k).units → IsWritten n ps cells (set dense at z) (k + 1)
-  one_written z is = record {
-    square = length-set dense at z ∙ h.square;
-    here = λ row col j a b lt s. elim (cases_eq j k) [
-      | inl e ↦
-          let r : (key ps k).0 ≡ row = ap (λ m. (key ps m).0) (sym e) ∙ s.row_is in
-          let c : (key ps k).1 ≡ col = ap (λ m. (key ps m).1) (sym e) ∙ s.col_is in
-          (λ i. cell (set dense at z) n (sym r i) (sym c i)) ∙ get_or-set_same dense at z (pos 0) place_in ∙ is ∙ ap (λ m. (cell_at cells m).units) (sym e)
-      | inr ne ↦ other row col a b
-          (λ (f, g). ne (only_slot ps row col j k rising s (record { in_range = in_range; row_is = f; col_is = g })))
-          z
-          ∙ h.here row col j a b (omega arith) s
-    ];
-    none = λ row col a b away.
-        other row col a b (λ (f, g). away k (omega arith) (record { in_range = in_range; row_is = f; col_is = g })) z
-        ∙ h.none row col a b (λ j lt. away j (omega arith));
-  }
+  -- into rows that lie one after another
+  module _ (dense : List ℤ) (square : length dense ≡ n * n) (h : IsWritten n ps cells (cell dense n) k) where
+    abbrev spot : ℕ
+    spot = (key ps k).0 * n + (key ps k).1
+
+    place_in : spot < length dense
+    place_in = subst (λ m. spot < m) (sym square) (room n n (key ps k).0 (key ps k).1 row_in col_in)
+
+    pub one_set : (z : ℤ) → z ≡ (cell_at cells k).units → IsWritten n ps cells (cell (set dense spot z) n) (k + 1)
+    one_set z is = one_written (cell dense n) (cell (set dense spot z) n) h (get_or-set_same dense spot z (pos 0) place_in ∙ is)
+        (λ row col a b apart. get_or-set_other dense spot (row * n + col) z (pos 0)
+        (λ (e : row * n + col ≡ spot). let f = same_from_place row col (key ps k).0 (key ps k).1 n b col_in e in apart (sym f.0, sym f.1)))
+
+  -- into a list of rows
+  pub one_put : (rows : List (List ℤ)) (z : ℤ) → z ≡ (cell_at cells k).units → IsPut n ps cells rows k
+      → IsPut n ps cells (with_entry rows (key ps k).0 (key ps k).1 z) (k + 1)
+  one_put rows z is p =
+      let new : ℕ → ℕ → ℤ = λ row col. (if row == (key ps k).0 && (col == (key ps k).1) then z else p.at row col) in
+      record {
+        at = new;
+        rows_are = ap (λ m. with_entry m (key ps k).0 (key ps k).1 z) p.rows_are
+            ∙ sym (with_entry-table n p.at new (key ps k).0 (key ps k).1 z row_in col_in
+            (yes (key ps k).0 (key ps k).1 z (p.at (key ps k).0 (key ps k).1))
+            (λ row col a b away. no row col (key ps k).0 (key ps k).1 z (p.at row col) away));
+        written = one_written p.at new p.written (yes (key ps k).0 (key ps k).1 z (p.at (key ps k).0 (key ps k).1) ∙ is)
+            (λ row col a b apart. no row col (key ps k).0 (key ps k).1 z (p.at row col) (λ e f. apart (sym e, sym f)));
+      }
     where
-      other : (row col : ℕ) → row < n → col < n → (((key ps k).0 ≡ row) × ((key ps k).1 ≡ col) → ⊥) → (z : ℤ)
-          → cell (set dense at z) n row col ≡ cell dense n row col
-      other row col a b apart z = get_or-set_other dense at (row * n + col) z (pos 0)
-          (λ (e : row * n + col ≡ at). let f = same_from_place row col (key ps k).0 (key ps k).1 n b col_in e in apart (sym f.0, sym f.1))
+      yes : (r c : ℕ) (z w : ℤ) → (if r == r && (c == c) then z else w) ≡ z
+      yes r c z w = grind arith
 
-pub all_here : (n : ℕ) (ps : List (ℕ × ℕ)) (cells : List Cell) (dense : List ℤ) (k : ℕ) → length ps ≤ k → IsWritten n ps cells dense k
-    → (row col j : ℕ) → row < n → col < n → IsSlot ps row col j → cell dense n row col ≡ (cell_at cells j).units
-all_here n ps cells dense k e h row col j a b s = h.here row col j a b (omega (arith, s.in_range)) s
+      no : (i j r c : ℕ) (z w : ℤ) → (i ≡ r → j ≢ c) → (if i == r && (j == c) then z else w) ≡ w
+      no i j r c z w away = elim (cases_eq i r) [
+        | inl e ↦ let ne = away e in grind arith
+        | inr ne ↦ grind arith
+      ]
 
-pub all_none : (n : ℕ) (ps : List (ℕ × ℕ)) (cells : List Cell) (dense : List ℤ) (k : ℕ) → IsWritten n ps cells dense k
-    → (row col : ℕ) → row < n → col < n → (Contains ps (row, col) → ⊥) → cell dense n row col ≡ pos 0
-all_none n ps cells dense k h row col a b away = h.none row col a b (λ j lt s. away (held j s))
+pub all_here : (n : ℕ) (ps : List (ℕ × ℕ)) (cells : List Cell) (at : ℕ → ℕ → ℤ) (k : ℕ) → length ps ≤ k → IsWritten n ps cells at k
+    → (row col j : ℕ) → row < n → col < n → IsSlot ps row col j → at row col ≡ (cell_at cells j).units
+all_here n ps cells at k e h row col j a b s = h.here row col j a b (omega (arith, s.in_range)) s
+
+pub all_none : (n : ℕ) (ps : List (ℕ × ℕ)) (cells : List Cell) (at : ℕ → ℕ → ℤ) (k : ℕ) → IsWritten n ps cells at k
+    → (row col : ℕ) → row < n → col < n → (Contains ps (row, col) → ⊥) → at row col ≡ pos 0
+all_none n ps cells at k h row col a b away = h.none row col a b (λ j lt s. away (held j s))
   where
     held : (j : ℕ) → IsSlot ps row col j → Contains ps (row, col)
     held j s = let e = s.row_is in let f = s.col_is in subst (Contains ps) (λ i. (e i, f i)) (Contains-get_or ps j (0, 0) s.in_range)

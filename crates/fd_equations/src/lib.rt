@@ -43,5 +43,5 @@ pub use sparse::Rows;
 pub use terminals::{Voltage, voltage_of};
 
 // Handed on from the crates below.
-pub use fd_mat::{Dense, near_quotient};
+pub use fd_mat::{Dense, SparseRows, near_quotient};
 pub use fd_pattern::{Layout, LoadAt, Pattern, PlaceKind};

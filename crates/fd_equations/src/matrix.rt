@@ -1,14 +1,14 @@
 // A matrix by rows of non-zeros.
-ghost use Rattle.std.specs.Prelude.{◌≡◌, ℕ, ◌*◌, ◌<◌, ◌≤◌, ◌^◌, pos, IfOk, length, All};
+ghost use Rattle.std.specs.Prelude.{◌≡◌, ℕ, ◌*◌, ◌<◌, ◌≤◌, ◌^◌, pos, IfOk, OnOk, length, All};
 ghost use Rattle.std.specs.List.{Contains};
 ghost use Rattle.fd_mat.specs.fd_exact.States.{cell, part, table};
 ghost use Rattle.fd_mat.specs.Rows.{EntriesWithin};
 ghost use Rattle.fd_equations.specs.Amounts.{Amount, AreCells, IsNothingElsewhere, IsRowOf, cell_at};
-ghost use Rattle.fd_equations.specs.Matrices.{IsMatrix, matrix_with};
+ghost use Rattle.fd_equations.specs.Matrices.{ArePut, IsMatrix, matrix_with};
 ghost use Rattle.fd_pattern.specs.Patterns.{IsInside, IsRising, IsSlot, pattern_of};
 
 use crate::cells::{Cell, row_in};
-use fd_mat::Dense;
+use fd_mat::{Dense, SparseRows};
 use fd_pattern::Pattern;
 use std::alloc::{AllocError, Global};
 use std::marker::Model;
@@ -85,6 +85,35 @@ impl<'a> Matrix<'a> {
         write(self.pattern.places(), &self.cells, width, &mut dense);
         Ok(Dense::from_cells(size, dense))
     }
+
+    /// The matrix by its entries that aren't 0, in units of 2^-40.
+    ///
+    /// # Errors
+    /// `AllocError` where the memory for the entries is refused.
+    pub fn to_rows(&self, alloc: Global) -> Result<SparseRows, AllocError>
+        requires long { length self.now.cells ≡ length self.now.places }
+        ensures { IfOk result (λ m. (at : ℕ × ℕ → Amount) → IsMatrix self.now.size self.now at
+            → m ≡ table self.now.size self.now.size (λ row col. (at (row, col)).units)) }
+    {
+        let mut rows = SparseRows::zero(alloc, self.pattern.size());
+        put(self.pattern.places(), &self.cells, &mut rows)?;
+        Ok(rows)
+    }
+}
+
+// Writes the cells at these places into rows in which nothing stands.
+fn put(places: &[(u32, u32)], cells: &[Cell], rows: &mut SparseRows) -> Result<(), AllocError>
+    requires long { length cells.now ≡ length places.now }
+    requires zero { rows.old ≡ table (length rows.old) (length rows.old) (λ _ _. pos 0) }
+    requires inside { All (IsInside (length rows.old)) places.now }
+    requires rising { IsRising places.now }
+    ensures { OnOk result (ArePut (length rows.old) places.now cells.now rows.new) }
+{
+    for k in 0..places.len() {
+        let (row, col) = places[k];
+        rows.set(row, col, cells[k].units)?;
+    }
+    Ok(())
 }
 
 // Writes the cells at these places into rows that lie one after another.

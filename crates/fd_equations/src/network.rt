@@ -9,7 +9,7 @@ ghost use Rattle.fd_pattern.specs.fd_system.Residual.{whole_state};
 ghost use Rattle.fd_pattern.specs.Coefficients.{linear_entry};
 ghost use Rattle.fd_pattern.specs.Conditions.{AreApart, IsKnown, IsNetwork, IsPoint, IsServed};
 ghost use Rattle.fd_equations.specs.Enclosure.{EndsWithin, addend_count, interval_residual_of, summand_count};
-ghost use Rattle.fd_equations.specs.Matrices.{IsMatrix, jacobian_amount};
+ghost use Rattle.fd_equations.specs.Matrices.{IsMatrix, jacobian_amount, start_amount};
 ghost use Rattle.fd_equations.specs.Rounded.{constants_of, jacobian_count, jacobian_of, linear_residual_of, rounded_residual_of, start_matrix_of};
 ghost use Rattle.fd_pattern.specs.Views.{kind_of, network_of};
 ghost use Rattle.fd_equations.specs.Weights.{weights_of};
@@ -20,7 +20,7 @@ use crate::load_rows::add_loads;
 use crate::rows::linear_rows;
 use crate::weights::weights;
 use crate::{Matrix, Rows};
-use fd_mat::Dense;
+use fd_mat::{Dense, SparseRows};
 use fd_pattern::{Constant, Interval, Layout, LoadAt, Micro, PlaceKind, Term};
 use std::alloc::{AllocError, Global};
 use std::marker::Model;
@@ -173,6 +173,13 @@ impl<'a> Network<'a> {
         Ok(rows)
     }
 
+    // The matrix of which the first inverse is made, by rows of non-zeros.
+    fn start(&self, alloc: Global) -> Result<Matrix<'_>, AllocError>
+        ensures { IfOk result (λ m. IsMatrix self.now.size m (start_amount self.now)) }
+    {
+        self.rows.start(alloc)
+    }
+
     /// The matrix of which the first inverse is made, in units of 2^-40.
     ///
     /// # Errors
@@ -181,7 +188,17 @@ impl<'a> Network<'a> {
         ensures entries { IfOk result (λ d. d ≡ start_matrix_of self.now) }
         ensures small { IfOk result (λ d. EntriesWithin d (2 ^ 100)) }
     {
-        self.rows.start(alloc)?.to_dense(alloc)
+        self.start(alloc)?.to_dense(alloc)
+    }
+
+    /// The same matrix by its entries that aren't 0.
+    ///
+    /// # Errors
+    /// `AllocError` where the memory for the entries is refused.
+    pub fn sparse_start(&self, alloc: Global) -> Result<SparseRows, AllocError>
+        ensures { IfOk result (λ m. m ≡ start_matrix_of self.now) }
+    {
+        self.start(alloc)?.to_rows(alloc)
     }
 
     /// The rounded Jacobian at the point x by rows of non-zeros, in units of 2^-40: in each row the columns in which a contribution or a
@@ -206,6 +223,17 @@ impl<'a> Network<'a> {
         ensures small { IfOk result (λ d. EntriesWithin d (2 ^ 100)) }
     {
         self.jacobian(alloc, x)?.to_dense(alloc)
+    }
+
+    /// The same matrix by its entries that aren't 0.
+    ///
+    /// # Errors
+    /// `AllocError` where the memory for the entries is refused.
+    pub fn sparse_jacobian(&self, alloc: Global, x: &[i128]) -> Result<SparseRows, AllocError>
+        requires { IsPoint self.now x.now }
+        ensures { IfOk result (λ m. m ≡ jacobian_of self.now x.now) }
+    {
+        self.jacobian(alloc, x)?.to_rows(alloc)
     }
 
     /// The weight of each unknown at the point x, in whole micro-units: from 10^6 to 2^66.

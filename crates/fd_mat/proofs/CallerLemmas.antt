@@ -1,4 +1,5 @@
 -- Lemmas that this crate hands on.
+pub use Rattle.fd_mat.proofs.Entries.{held_entry, held_within, value_more}
 use Rattle.std.proofs.Common.{◌≡◌, ℕ, ℤ, List, None}
 use Rattle.fd_mat.specs.Rows.{EntriesWithin, first_column_past}
 use Rattle.fd_mat.proofs.Columns.{column_none}

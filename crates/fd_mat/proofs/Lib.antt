@@ -1,2 +1,3 @@
 mod Columns
+mod Entries
 pub mod CallerLemmas

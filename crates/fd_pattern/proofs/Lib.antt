@@ -1,3 +1,4 @@
 pub mod Order
 pub mod Inside
+pub mod DrawnSizes
 pub mod CallerLemmas

@@ -8,8 +8,8 @@ use Rattle.std.specs.List.Sorted.{IsBinarySearchResult, IsPartitionPoint, IsPart
 use Rattle.std.proofs.lemmas.Cmp.{ranked}
 use Rattle.std.proofs.lemmas.Bool.{cases_eq, cases_lt, lt-ltb, ltb-false, ltb-true}
 use Rattle.std.proofs.lemmas.List.{get_or_append_left, get_or_default, get_or_push, length_push}
-use Rattle.std.proofs.lemmas.List.Elements.{Contains-append_left, Contains-get_or, Contains-push}
-use Rattle.std.proofs.lemmas.List.Sorted.{All-permutation, IsPermutation-sym}
+use Rattle.std.proofs.lemmas.List.Elements.{All-weaker, Contains-append_left, Contains-get_or, Contains-push}
+use Rattle.std.proofs.lemmas.List.Sorted.{All-permutation, Contains-permutation, IsPermutation-sym}
 use Rattle.fd_pattern.specs.Patterns.{IsAfterAll, IsBefore, IsInside, IsKept, IsNotAfter, IsPattern, IsRising, IsSlot, IsSorted, IsStart, key, pattern_of}
 
 -- by row, then by column, as the sort compares
@@ -241,6 +241,10 @@ is_pattern size ps sorted kept small inside same k = record {
 
 pub has_all : (ps sorted kept : List (ℕ × ℕ)) → IsPermutation ps sorted → IsKept sorted kept → All (Contains kept) ps
 has_all ps sorted kept same k = All-permutation (Contains kept) sorted ps (IsPermutation-sym ps sorted same) k.all
+
+pub has_only : (ps sorted kept : List (ℕ × ℕ)) → IsPermutation ps sorted → IsKept sorted kept → All (Contains ps) kept
+has_only ps sorted kept same k =
+    All-weaker (Contains sorted) (Contains ps) (λ p. Contains-permutation sorted ps p (IsPermutation-sym ps sorted same)) kept k.only
 
 -- a place stands once
 pub only_slot : (ps : List (ℕ × ℕ)) (row col j k : ℕ) → IsRising ps → IsSlot ps row col j → IsSlot ps row col k → j ≡ k

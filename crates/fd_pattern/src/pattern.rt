@@ -35,6 +35,7 @@ impl Pattern {
         requires inside { All (IsInside size) places.items }
         ensures size { IfOk result (λ p. p.size ≡ size) }
         ensures has_all { IfOk result (λ p. All (Contains p.places) places.items) }
+        ensures only { IfOk result (λ p. All (Contains places.items) p.places) }
     {
         places.sort()?;
         let kept = without_repeats(alloc, &places)?;

@@ -1,14 +1,12 @@
 -- Sums of a few numbers of 128 bits.
 use Rattle.std.proofs.Common.{◌≡◌, ◌∙◌, ℕ, zero, suc, ◌+◌, ◌*◌, ◌≤◌, ◌<◌, ◌^◌, ℤ, ◌+ℤ◌, nat_abs, FitsSigned, to_z, of_z, ap, sym, arith}
 use Rattle.std.specs.Int.{w128}
-use Rattle.std.proofs.lemmas.Int.{ints, to_z-of_z}
+use Rattle.std.proofs.lemmas.Int.{ints}
 use Rattle.fd_pattern.specs.fd_load.fd_exact.Sums.{sum_z}
+pub use Rattle.fd_pattern.proofs.CallerLemmas.{kept_by}
 
 fits_by : (z : ℤ) → nat_abs z ≤ 2 ^ 126 → FitsSigned w128 z
 fits_by z h = omega (arith, ints, h)
-
-pub kept_by : (z : ℤ) → nat_abs z ≤ 2 ^ 126 → to_z w128 (of_z w128 z) ≡ z
-kept_by z h = to_z-of_z w128 z (fits_by z h)
 
 module _ (m : ℕ) (a d : ℤ) (few : m < 3) (low : nat_abs a ≤ m * 2 ^ 103) (small : nat_abs d ≤ 2 ^ 103) where
   held : to_z w128 (of_z w128 d) ≡ d

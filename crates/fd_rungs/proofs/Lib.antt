@@ -1,6 +1,5 @@
 mod Products
 mod Drops
-mod Drawn
 mod Walks
 mod Steps
 mod Sweeping

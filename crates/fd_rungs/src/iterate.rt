@@ -218,23 +218,22 @@ pub fn sweeps(
         Made::Past(place) => return Ok(Swept::OutOfRange { place, sweep: 0 }),
     };
     for sweep in 0..most {
-        match sweep_from(alloc, &x, ladder, loads)? {
-            Made::State(y) => {
-                if are_still(&x, &y, nodes) {
-                    return Ok(Swept::Settled {
-                        x: Numbers::new(y),
-                        sweeps: sweep + 1,
-                    });
-                }
-                x = y;
-            }
+        let y = match sweep_from(alloc, &x, ladder, loads)? {
+            Made::State(y) => y,
             Made::Past(place) => {
                 return Ok(Swept::OutOfRange {
                     place,
                     sweep: sweep + 1,
                 });
             }
+        };
+        if are_still(&x, &y, nodes) {
+            return Ok(Swept::Settled {
+                x: Numbers::new(y),
+                sweeps: sweep + 1,
+            });
         }
+        x = y;
     }
     Ok(Swept::NotConverged { sweeps: most })
 }

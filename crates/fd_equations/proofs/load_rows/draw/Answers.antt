@@ -3,7 +3,7 @@ use Rattle.std.specs.Int.{w128}
 use Rattle.fd_mat.specs.fd_exact.Rounding.{near_div}
 use Rattle.fd_pattern.specs.fd_arith.Fix.{nearest}
 use Rattle.fd_pattern.specs.fd_load.Current.{divisor, excess, in_phase, quadrature}
-use Rattle.fd_equations.proofs.DrawnSizes.{excess_small, in_phase_small, kept_units, quadrature_small}
+use Rattle.fd_pattern.proofs.CallerLemmas.{excess_small, in_phase_small, kept_units, quadrature_small}
 use Rattle.fd_equations.proofs.Sizes.{kept_by}
 use Rattle.fd_equations.proofs.load_rows.draw.Goals as goal
 use Rattle.fd_equations.proofs.load_rows.draw.Goals.{After-units-3}

@@ -3,7 +3,7 @@ use Rattle.std.specs.Int.{w128}
 use Rattle.fd_pattern.specs.fd_load.fd_exact.Rounding.{near_div}
 use Rattle.fd_pattern.specs.fd_arith.Fix.{nearest}
 use Rattle.fd_pattern.specs.fd_load.Current.{divisor, in_phase, quadrature}
-use Rattle.fd_rungs.proofs.Drawn.{in_phase_small, kept_units, quadrature_small}
+use Rattle.fd_pattern.proofs.CallerLemmas.{in_phase_small, kept_units, quadrature_small}
 use Rattle.fd_rungs.proofs.Drops.{kept_by}
 use Rattle.fd_rungs.proofs.draws.load_current.Goals as goal
 use Rattle.fd_rungs.proofs.draws.load_current.Goals.{After-units-2}

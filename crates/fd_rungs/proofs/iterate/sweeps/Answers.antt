@@ -11,7 +11,7 @@ returns-then-are_still c =
     ∙ sym c.in_ok-y.ensures.value ∙ ap made_in c.in-State-2.is in
     ap (λ y. Settled y (c.loop-sweep.sweep + 1)) c.new.ensures
     ∙ still (ladder_in c.args.ladder.now) c.args.loads.now c.args.nodes c.args.most c.loop-sweep.sweep c.loop-sweep.x.items
-    c.in-State-2.y.items _ c.loop-sweep-test.true made ((λ i. are_still (sym c.deref-in-State-2.ensures.value i) (sym c.deref-in-State-2-2.ensures.value i) c.args.nodes) ∙ sym c.are_still.ensures ∙ c.if-are_still.true) c.loop-sweep.invariant.rest
+    c.in-State-2.y.items _ c.loop-sweep-test.true made ((λ i. are_still (sym c.deref-in-loop-sweep.ensures.value i) (sym c.deref-in-loop-sweep-2.ensures.value i) c.args.nodes) ∙ sym c.are_still.ensures ∙ c.if-are_still.true) c.loop-sweep.invariant.rest
 
 pub returns-in-Past-2 : goal.returns-in-Past-2
 returns-in-Past-2 c =
@@ -27,6 +27,6 @@ loop-sweep-preserved c =
     record {
       rest = moves (ladder_in c.args.ladder.now) c.args.loads.now c.args.nodes c.args.most c.loop-sweep.sweep
           c.loop-sweep.x.items c.in-State-2.y.items _ c.loop-sweep-test.true made
-          ((λ i. are_still (sym c.deref-in-State-2.ensures.value i) (sym c.deref-in-State-2-2.ensures.value i) c.args.nodes) ∙ sym c.are_still.ensures ∙ c.if-are_still.false) c.loop-sweep.invariant.rest;
+          ((λ i. are_still (sym c.deref-in-loop-sweep.ensures.value i) (sym c.deref-in-loop-sweep-2.ensures.value i) c.args.nodes) ∙ sym c.are_still.ensures ∙ c.if-are_still.false) c.loop-sweep.invariant.rest;
       small = subst IsMade c.in-State-2.is c.in_ok-y.ensures.small;
     }

@@ -1,6 +1,6 @@
 use Rattle.std.proofs.Common.{sym, subst}
 use Rattle.fd_pattern.specs.Patterns.{AreStarts, IsKept, IsSorted}
-use Rattle.fd_pattern.proofs.Order.{has_all, is_pattern, sorted_from, sorted_from_rising}
+use Rattle.fd_pattern.proofs.Order.{has_all, has_only, is_pattern, sorted_from, sorted_from_rising}
 use Rattle.fd_pattern.proofs.pattern.Pattern.of.Goals as goal
 
 pub without_repeats-requires : goal.without_repeats-requires
@@ -20,4 +20,9 @@ invariant_of-result c =
 pub returns-clause-has_all : goal.returns-clause-has_all
 returns-clause-has_all c =
     has_all c.args.places.items c.sort.new.self.items c.in_ok-kept.kept.items c.in_ok-sort.ensures.permutation
+    (subst (λ l. IsKept l c.in_ok-kept.kept.items) c.deref.ensures.value c.in_ok-kept.ensures)
+
+pub returns-clause-only : goal.returns-clause-only
+returns-clause-only c =
+    has_only c.args.places.items c.sort.new.self.items c.in_ok-kept.kept.items c.in_ok-sort.ensures.permutation
     (subst (λ l. IsKept l c.in_ok-kept.kept.items) c.deref.ensures.value c.in_ok-kept.ensures)

@@ -1,20 +1,24 @@
 -- The sizes of what a part load draws, to the nearest.
 use Rattle.std.proofs.Common.{◌≡◌, ◌∙◌, ℕ, ◌*◌, ◌≤◌, ◌^◌, ℤ, pos, ◌+ℤ◌, ◌-ℤ◌, ◌*ℤ◌, nat_abs, cond, Option, Some, None, to_z, of_z, arith, ap}
 use Rattle.std.specs.Int.{w128}
-use Rattle.fd_pattern.specs.fd_arith.Limits.{within}
-use Rattle.fd_pattern.specs.fd_arith.Capping.{true-fits}
-use Rattle.std.proofs.lemmas.Int.{ints, unsigned_abs-mul}
+use Rattle.fd_load.specs.fd_arith.Limits.{within}
+use Rattle.fd_load.specs.fd_arith.Capping.{true-fits}
+use Rattle.std.proofs.lemmas.Int.{ints, unsigned_abs-mul, to_z-of_z, fits_signed_from_abs}
 use Rattle.std.proofs.Math.Nat.{mul-le-mul, mul-le-mul_right}
-use Rattle.fd_pattern.specs.fd_load.fd_exact.Rounding.{near_div}
-use Rattle.fd_pattern.specs.fd_arith.declared.terms.LoadModel.{LoadModel}
-use Rattle.fd_pattern.specs.fd_arith.declared.terms.LoadModel.TheVariants.{ConstantPower, ConstantImpedance, ConstantCurrent}
-use Rattle.fd_pattern.specs.fd_arith.LoadModels.{by_model}
-use Rattle.fd_pattern.specs.fd_system.declared.loads.LoadPhase.{LoadPhase}
-use Rattle.fd_pattern.specs.fd_system.Loads.{clamp, non_negative, square_of}
-use Rattle.fd_pattern.specs.fd_load.Current.{AreVoltages, IsLoadPhase, divisor, excess, in_phase, largest, power_sum, quadrature}
-use Rattle.fd_pattern.specs.fd_load.fd_exact.Nearest.{near_within}
-use Rattle.fd_rungs.proofs.Drops.{kept_by}
-use Rattle.fd_pattern.proofs.CallerLemmas.fd_load.{current_most, divisor-positive, sum_most, times_most, turned, turned_largest}
+use Rattle.fd_load.specs.fd_exact.Integers.{abs_sub}
+use Rattle.fd_load.specs.fd_exact.Rounding.{near_div}
+use Rattle.fd_load.specs.fd_arith.declared.terms.LoadModel.{LoadModel}
+use Rattle.fd_load.specs.fd_arith.declared.terms.LoadModel.TheVariants.{ConstantPower, ConstantImpedance, ConstantCurrent}
+use Rattle.fd_load.specs.fd_arith.LoadModels.{by_model}
+use Rattle.fd_load.specs.fd_system.declared.loads.LoadPhase.{LoadPhase}
+use Rattle.fd_load.specs.fd_system.Loads.{clamp, non_negative, square_of}
+use Rattle.fd_load.specs.Current.{AreVoltages, IsLoadPhase, divisor, excess, in_phase, largest, power_sum, quadrature}
+use Rattle.fd_load.specs.fd_exact.Nearest.{near_within}
+use Rattle.fd_load.proofs.CallerLemmas.{current_most, divisor-positive, sum_most, times_most, turned, turned_largest}
+
+-- a number that is not large is what an i128 keeps of it
+pub kept_by : (z : ℤ) → nat_abs z ≤ 2 ^ 126 → to_z w128 (of_z w128 z) ≡ z
+kept_by z h = to_z-of_z w128 z (fits_signed_from_abs w128 z (omega arith))
 
 -- ---- the denominator is at least the square of the lower limit
 
@@ -61,6 +65,26 @@ module _ (w : LoadPhase) (p q m : ℤ) (h : IsLoadPhase w) (v : AreVoltages p q 
   quadrature_small =
       nearest_small (quadrature w p q) (rw (← turned (10 ^ 9) w.p w.q p q, ← turned_largest p q) (times_most (10 ^ 9)
       (w.p *ℤ q +ℤ w.q *ℤ (pos 0 -ℤ p)) (power_sum w * largest q (pos 0 -ℤ p)) (sum_most w.p w.q q (pos 0 -ℤ p))))
+
+  square_most : (z : ℤ) → nat_abs z ≤ 2 ^ 41 → nat_abs (z *ℤ z) ≤ 2 ^ 41 * 2 ^ 41
+  square_most z b = let g = mul-le-mul b b in rw (unsigned_abs-mul z z) g
+
+  nominal_positive : 5 * 10 ^ 6 ≤ nat_abs w.vn
+  nominal_positive = omega (arith, ints, h.nominal_least)
+
+  excess_most : nat_abs (excess p q m) ≤ 2 ^ 62 * nat_abs w.vn
+  excess_most = omega (
+    arith,
+    nominal_positive,
+    abs_sub (m *ℤ m -ℤ p *ℤ p) (q *ℤ q),
+    abs_sub (m *ℤ m) (p *ℤ p),
+    square_most m v.magnitude,
+    square_most p v.re,
+    square_most q v.im,
+  )
+
+  pub excess_small : nat_abs (near_div (excess p q m) (nat_abs w.vn)) ≤ 2 ^ 62
+  excess_small = near_within (excess p q m) (nat_abs w.vn) (2 ^ 62) (omega (arith, nominal_positive)) excess_most
 
 -- ---- the units of a number within the limit
 
