@@ -4,3 +4,4 @@ pub mod Products
 pub mod Iterates
 pub mod Inside
 pub mod CallerLemmas
+mod Pairs

@@ -2,6 +2,7 @@ pub mod Faults
 pub mod Ranges
 pub mod Updates
 pub mod Procedure
+pub mod Kept
 pub use Rattle.fd_equations.specs.fd_exact as fd_exact
 pub use Rattle.fd_inverse.specs.fd_arith as fd_arith
 pub use Rattle.fd_equations.specs.fd_mat as fd_mat

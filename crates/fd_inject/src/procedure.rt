@@ -14,38 +14,13 @@ use crate::ranges::{inverse, test_range};
 use crate::steps::{PART_LIMIT, iterate, step};
 use crate::updates::update_for;
 use fd_equations::{Dense, LoadAt, Network, Point};
-use std::alloc::{AllocError, Global};
-
-// The most matrices of the network's size that are in use at a time.
-const MATRICES: usize = 2;
+use std::alloc::Global;
 
 // An iterate and its number.
 #[derive(Drop)]
 struct Reached {
     number: u32,
     x: Vec<i128>,
-}
-
-// Takes memory for the matrices that are in use at a time, if it is there, and gives it back. For a block larger than
-// each that was freed so far, the C library's heap asks the system anew, which clears its pages; after this the heap
-// keeps a matrix's memory for the next one.
-fn keep_memory(alloc: Global, size: u32)
-    requires { size ≤ 2 ^ 11 }
-{
-    let width = size as usize;
-    let room: Result<Vec<i128>, AllocError> = Vec::with_capacity(alloc, MATRICES * (width * width));
-    drop(room);
-}
-
-// The inverse of the start matrix.
-fn start_inverse(alloc: Global, net: &Network) -> Result<Dense, SolveFault>
-    ensures inverse { MatchResult result (λ c. inverse_at (start_matrix_of net.now) ≡ Ok c)
-        (λ f. UnlessMemory f (inverse_at (start_matrix_of net.now) ≡ Err f)) }
-    ensures size { IfOk result (λ c. length c ≡ net.now.size) }
-    ensures small { IfOk result (λ c. EntriesWithin c (2 ^ 56)) }
-{
-    let matrix = net.start_matrix(alloc)?;
-    inverse(alloc, matrix)
 }
 
 // The inverse of the rounded Jacobian at a point.
@@ -56,8 +31,8 @@ fn inverse_there(alloc: Global, net: &Network, x: &[i128]) -> Result<Dense, Solv
     ensures size { IfOk result (λ c. length c ≡ net.now.size) }
     ensures small { IfOk result (λ c. EntriesWithin c (2 ^ 56)) }
 {
-    let matrix = net.rounded_jacobian(alloc, x)?;
-    inverse(alloc, matrix)
+    let matrix = net.sparse_jacobian(alloc, x)?;
+    inverse(alloc, &matrix)
 }
 
 // Sets the magnitude of each load to the load's nominal voltage.
@@ -130,16 +105,23 @@ fn iterate_from(
     Ok(limits.max_iterations)
 }
 
-// The last iterate of the steps with the first inverse.
-fn last_iterate(alloc: Global, net: &Network, limits: &Limits) -> Result<Reached, SolveFault>
-    requires { IsLimits limits.now }
+// The last iterate of the steps with the inverse of the start matrix.
+fn last_iterate(
+    alloc: Global,
+    net: &Network,
+    limits: &Limits,
+    first: &Dense,
+) -> Result<Reached, SolveFault>
+    requires limits { IsLimits limits.now }
+    requires inverse { inverse_at (start_matrix_of net.now) ≡ Ok first.now }
+    requires size { length first.now ≡ net.now.size }
+    requires entries { EntriesWithin first.now (2 ^ 56) }
     ensures last { MatchResult result (λ r. last_of net.now limits.now ≡ Ok (r.number, r.x.items)) (λ f. UnlessMemory f (last_of net.now limits.now ≡ Err f)) }
     ensures few { IfOk result (λ r. r.number ≤ 1000) }
     ensures point { IfOk result (λ r. IsPoint net.now r.x.items) }
 {
-    let inverse = start_inverse(alloc, net)?;
-    let mut x = start(alloc, net, &inverse)?;
-    let number = iterate_from(alloc, net, limits, &inverse, &mut x)?;
+    let mut x = start(alloc, net, first)?;
+    let number = iterate_from(alloc, net, limits, first, &mut x)?;
     Ok(Reached { number, x })
 }
 
@@ -164,21 +146,17 @@ fn polish(
     Ok(())
 }
 
-/// The point of a network: a state that nearly meets the rows, and the inverse of the rounded Jacobian with which it was reached.
-///
-/// Iterates are numbered from 0. Iterate 0 is the inverse of the start matrix times the constants, its sign turned, with each
-/// magnitude at its load's nominal voltage. A step subtracts the inverse times the rounded residual, each row's sum over 2^40 to the
-/// nearest. The steps end where each part of a node and each magnitude moved by at most the tolerance times its weight at the new
-/// iterate. Then the inverse is taken anew, of the rounded Jacobian there, and two steps are made with it. The rule is this profile's.
-///
-/// # Errors
-/// The first fault in the order of the steps. `NoInverse`: the start matrix, or the rounded Jacobian of the last iterate, has no
-/// inverse, or has an entry past 2^62 in size in the column (`Range`). `OutOfRange`: a part of an iterate is past 2^40 in size, or one
-/// of its residual past 2^58 when it is needed; for the start also a row's constants. `NotConverged`: after `max_iterations` steps a
-/// part of a node or a magnitude still moves by more. `NoMemory` where memory is refused. Each column and each place that is named is one
-/// of the network's.
-pub fn solve(alloc: Global, net: &Network, limits: &Limits) -> Result<Point, SolveFault>
-    requires { IsLimits limits.now }
+// The point that is reached with the inverse of the start matrix.
+pub fn solve_from(
+    alloc: Global,
+    net: &Network,
+    limits: &Limits,
+    first: &Dense,
+) -> Result<Point, SolveFault>
+    requires limits { IsLimits limits.now }
+    requires inverse { inverse_at (start_matrix_of net.now) ≡ Ok first.now }
+    requires size { length first.now ≡ net.now.size }
+    requires entries { EntriesWithin first.now (2 ^ 56) }
     ensures point { IfOk result (λ p. solution_of net.now limits.now ≡ Ok (p.x.items, p.inverse)) }
     ensures fault { IfErr result (λ f. UnlessMemory f (solution_of net.now limits.now ≡ Err f)) }
     ensures within { IfErr result (λ f. IsInside net.now.size f) }
@@ -186,8 +164,7 @@ pub fn solve(alloc: Global, net: &Network, limits: &Limits) -> Result<Point, Sol
     ensures size { IfOk result (λ p. length p.inverse ≡ net.now.size) }
     ensures entries { IfOk result (λ p. EntriesWithin p.inverse (2 ^ 56)) }
 {
-    keep_memory(alloc, net.size());
-    let last = last_iterate(alloc, net, limits)?;
+    let last = last_iterate(alloc, net, limits, first)?;
     let number = last.number;
     let mut x = last.x;
     let inverse = inverse_there(alloc, net, &x)?;

@@ -5,8 +5,8 @@ ghost use Rattle.fd_inject.specs.Ranges.{SizesWithin, first_past, in_range, inve
 ghost use Rattle.fd_inject.specs.Faults.{UnlessMemory};
 
 use crate::fault::SolveFault;
-use fd_equations::Dense;
-use fd_inverse::{InverseFault, Stop, invert};
+use fd_equations::{Dense, SparseRows};
+use fd_inverse::{InverseFault, Stop, invert_rows};
 use std::alloc::Global;
 
 // The greatest size of an entry of a matrix that is eliminated, 2^62.
@@ -39,9 +39,9 @@ pub fn test_range(xs: &[i128], limit: u128, step: u32) -> Result<(), SolveFault>
 }
 
 // The inverse of a matrix, in units of 2^-40.
-pub fn inverse(alloc: Global, a: Dense) -> Result<Dense, SolveFault>
-    ensures inverse { MatchResult result (λ c. inverse_at a ≡ Ok c) (λ f. UnlessMemory f (inverse_at a ≡ Err f)) }
-    ensures size { IfOk result (λ c. length c ≡ length a) }
+pub fn inverse(alloc: Global, a: &SparseRows) -> Result<Dense, SolveFault>
+    ensures inverse { MatchResult result (λ c. inverse_at a.now ≡ Ok c) (λ f. UnlessMemory f (inverse_at a.now ≡ Err f)) }
+    ensures size { IfOk result (λ c. length c ≡ length a.now) }
     ensures small { IfOk result (λ c. EntriesWithin c (2 ^ 56)) }
 {
     match a.first_column_past(ENTRY_LIMIT) {
@@ -54,13 +54,13 @@ pub fn inverse(alloc: Global, a: Dense) -> Result<Dense, SolveFault>
 }
 
 // The inverse of a matrix whose entries are at most 2^62 in size.
-fn inverse_within(alloc: Global, a: Dense) -> Result<Dense, SolveFault>
-    requires { EntriesWithin a (2 ^ 62) }
-    ensures inverse { MatchResult result (λ c. inverse_at a ≡ Ok c) (λ f. UnlessMemory f (inverse_at a ≡ Err f)) }
-    ensures size { IfOk result (λ c. length c ≡ length a) }
+fn inverse_within(alloc: Global, a: &SparseRows) -> Result<Dense, SolveFault>
+    requires { EntriesWithin a.now (2 ^ 62) }
+    ensures inverse { MatchResult result (λ c. inverse_at a.now ≡ Ok c) (λ f. UnlessMemory f (inverse_at a.now ≡ Err f)) }
+    ensures size { IfOk result (λ c. length c ≡ length a.now) }
     ensures small { IfOk result (λ c. EntriesWithin c (2 ^ 56)) }
 {
-    match invert(alloc, a) {
+    match invert_rows(alloc, a) {
         Ok(inverse) => Ok(inverse),
         Err(InverseFault::NoInverse { column, cause }) => Err(SolveFault::NoInverse {
             column,

@@ -8,7 +8,7 @@ use Rattle.fd_inject.specs.Ranges.{inverse_at}
 use Rattle.fd_inject.proofs.Iterates.{no_inverse_there, no_last, solved}
 use Rattle.fd_inject.proofs.Inside.{fault_inside}
 use Rattle.fd_inject.proofs.Limited.{unless_more}
-use Rattle.fd_inject.proofs.procedure.solve.Goals as goal
+use Rattle.fd_inject.proofs.procedure.solve_from.Goals as goal
 
 pub returns-in_err-last-clause-fault : goal.returns-in_err-last-clause-fault
 returns-in_err-last-clause-fault c =
