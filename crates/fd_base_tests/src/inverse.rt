@@ -1,7 +1,7 @@
 // Worked values, and the same elimination written plainly on a list of rows.
 
 use crate::checks::{holds, same};
-use fd_inverse::{Dense, InverseFault, Stop, invert};
+use fd_inverse::{Dense, InverseFault, SparseRows, Stop, invert, invert_rows};
 use std::alloc::{AllocError, Global};
 use std::process::Abort;
 
@@ -141,14 +141,39 @@ fn inverse_cells(
     let a = Dense::from_cells(n, Vec::from_slice(alloc, cells)?);
     holds(rt, a.first_column_past(ENTRY_LIMIT).is_none());
     let c = invert(alloc, a)?;
-    let mut inverse = Vec::new(alloc);
-    for row in 0..c.size() {
-        inverse.extend_from_slice(c.row(row))?;
-    }
-    Ok(inverse)
+    Ok(all_cells(alloc, &c)?)
 }
 
-// Asserts the inverse of these rows, or why there is none.
+// The same by the rows' entries that aren't 0.
+fn sparse_inverse_cells(
+    rt: &impl Abort,
+    alloc: Global,
+    n: u32,
+    cells: &[i128],
+) -> Result<Vec<i128>, InverseFault> {
+    let mut a = SparseRows::zero(alloc, n);
+    for row in 0..n {
+        for col in 0..n {
+            holds(rt, row < a.size() && col < a.size());
+            let place = (row as usize).wrapping_mul(n as usize);
+            a.set(row, col, at(cells, place.wrapping_add(col as usize)))?;
+        }
+    }
+    holds(rt, a.first_column_past(ENTRY_LIMIT).is_none());
+    let c = invert_rows(alloc, &a)?;
+    Ok(all_cells(alloc, &c)?)
+}
+
+// The entries of a matrix, row by row.
+fn all_cells(alloc: Global, a: &Dense) -> Result<Vec<i128>, AllocError> {
+    let mut cells = Vec::new(alloc);
+    for row in 0..a.size() {
+        cells.extend_from_slice(a.row(row))?;
+    }
+    Ok(cells)
+}
+
+// Asserts the inverse of these rows by both calls, or why there is none.
 fn check(
     rt: &impl Abort,
     alloc: Global,
@@ -156,12 +181,16 @@ fn check(
     cells: &[i128],
     due: Result<&[i128], InverseFault>,
 ) {
-    let inverse = inverse_cells(rt, alloc, n, cells);
-    let found = match &inverse {
-        Ok(cells) => Ok(cells.as_slice()),
-        Err(fault) => Err(*fault),
-    };
-    same(rt, found, due);
+    for inverse in &[
+        inverse_cells(rt, alloc, n, cells),
+        sparse_inverse_cells(rt, alloc, n, cells),
+    ] {
+        let found = match inverse {
+            Ok(cells) => Ok(cells.as_slice()),
+            Err(fault) => Err(*fault),
+        };
+        same(rt, found, due);
+    }
 }
 
 #[test]
@@ -256,6 +285,8 @@ fn agrees_with_the_plain_elimination(rt: HostRuntime) {
     for (n, cells) in &MATRICES {
         let inverse = inverse_cells(&rt, alloc, *n, cells);
         same(&rt, inverse, plain(alloc, *n, cells));
+        let by_rows = sparse_inverse_cells(&rt, alloc, *n, cells);
+        same(&rt, by_rows, plain(alloc, *n, cells));
     }
     check(&rt, alloc, 3, &FULL, Ok(&INVERSE_OF_FULL));
     check(&rt, alloc, 3, &DEPENDENT, Err(no_inverse(2, Stop::Pivot)));

@@ -15,6 +15,8 @@ mod checks;
 #[cfg(test)]
 mod contributions;
 #[cfg(test)]
+mod derived;
+#[cfg(test)]
 mod generator;
 #[cfg(test)]
 mod inverse;

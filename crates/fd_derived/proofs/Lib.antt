@@ -1,0 +1,12 @@
+pub mod Fronts
+pub mod Caps
+pub mod Adding
+pub mod Drained
+pub mod Found
+pub mod Named
+pub mod Whole
+pub mod Lower
+pub mod Rows
+pub mod Allowed
+pub mod DefectSums
+pub mod Loads

@@ -1,0 +1,17 @@
+use Rattle.std.proofs.Common.{◌∙◌, ℕ, ◌+◌, ap, subst, sym}
+use Rattle.fd_factors.specs.Factors.{DerivedRow}
+use Rattle.fd_derived.specs.Rows.{row_at, entries_of}
+use Rattle.fd_derived.specs.Sums.{AreTotals, capped, size_of}
+use Rattle.fd_derived.proofs.Rows.{row_there}
+use Rattle.fd_derived.proofs.Allowed.{totals_more}
+use Rattle.fd_derived.proofs.lists.left_sizes.Goals as goal
+
+pub loop-row-preserved : goal.loop-row-preserved
+loop-row-preserved c =
+    let r = c.loop-row.row in
+    let f : ℕ → ℕ = (λ k. size_of (row_at c.args.rows.now k).left) in
+    let x = c.index-rows-row.result in
+    let read = row_there c.args.rows.now r x c.loop-row-test.true in
+    let is = ap size_of (ap (λ (row : DerivedRow). row.left) read ∙ ap entries_of (sym c.deref.ensures.value)) in
+    subst (AreTotals f (r + 1)) (sym c.in_ok-push.ensures.items)
+    (totals_more f r c.loop-row.sizes.items c.size_of.result c.loop-row.invariant (c.size_of.ensures ∙ ap capped (sym is)))
