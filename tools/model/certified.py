@@ -174,15 +174,18 @@ class Certified:
     def __init__(self, net, x, inverse):
         self.net, self.x, self.inverse = net, x, inverse
         self.weights, self.mismatch = net.weights(x), mismatches(net, x)
-        for k, e in enumerate(self.mismatch):
-            if e > 1000:
-                raise Fault(9, 'loose', net.name(k), micro(e))
+        self.test_mismatches()
         self.boxes = [0 if net.kind(k) == 'branch' else ceil(w, 200) for k, w in enumerate(self.weights)]
         self.bounds = bounds_of(net, x, inverse, self.boxes, self.weights)
         self.radii, reached = self.judged(self.mismatch)
         if reached:
             raise self.refused(*reached)
         self.bound = max(self.bounds)
+
+    def test_mismatches(self):
+        for k, e in enumerate(self.mismatch):
+            if e > 1000:
+                raise Fault(9, 'loose', self.net.name(k), micro(e))
 
     def judged(self, mismatch):
         return judged(self.bounds, self.inverse, self.weights, mismatch)

@@ -1,14 +1,17 @@
-"""An exact model of `solve`, `cert`, `fault` and `ladder`. Whole numbers alone."""
+"""An exact model of `solve`, `cert`, `fault`, `ladder` and the words of large circuits. Whole numbers alone."""
 import os
 import sys
 sys.path.insert(0, os.path.dirname(os.path.abspath(__file__)))
 import controls
+import derived
 import fault
 import ladder
+import large
 from bases import base_records
 from certified import CASES, Certified
 from network import Network
 from procedure import Fault, Procedure
+from ready import check_ready
 from script import Refused, Script
 
 
@@ -171,7 +174,94 @@ class Ladder(Run):
         return None
 
 
-COMMANDS = {'solve': Solve, 'cert': Cert, 'fault': Short, 'ladder': Ladder}
+class Large(Solve):
+    """`large MASTER`: as `solve`, of a radial circuit of any size."""
+
+    def solve(self, circuit, options):
+        offending = large.first_offending(circuit)
+        return self.fault(15, 'not radial', offending) if offending else super().solve(circuit, options)
+
+    def state(self, circuit, options, hour=0):
+        net = Network(circuit, options['hertz'], hour, True)
+        made = large.Large(net, options['maxiterations'], options['tolerance'])
+        self.made.append(made)
+        return made
+
+
+class LargeCert(Large, Cert):
+    """`large-cert MASTER`: the blocks of a certificate of derived rows."""
+
+    def run(self):
+        text, status = super().run()
+        return text.replace(b'cert 2', b'cert 3', 1), status
+
+
+class Tested(Large):
+    """What a script is refused for before its certificate is asked for."""
+
+    def settle(self, circuit, options, hour, sampled, queue):
+        check_ready(circuit, options['hertz'], True)
+
+    def settled(self, records):
+        pass
+
+    def bases(self, circuit, options):
+        pass
+
+
+class LargeCheck(Large):
+    """`large-check MASTER CERTIFICATE`: judges a certificate of derived rows."""
+    act = staticmethod(controls.act_line)
+
+    def run(self):
+        text, status = Tested(self.files, self.words).run()
+        if status:
+            return text, status
+        try:
+            self.reader = derived.Reader(self.files.get(self.words[2]))
+            text, status = super().run()
+            if not status:
+                self.reader.finish()
+                text = b'certificate,accepted,%d\n' % self.reader.blocks
+            return text, status
+        except derived.Broken as it:
+            return b'fault,certificate,%d,%s\n' % (it.line, it.rule.encode()), 13
+
+    def state(self, circuit, options, hour=0):
+        net = Network(circuit, options['hertz'], hour, True)
+        self.block = self.reader.due()
+        made = derived.Judged(net, self.block, self.due)
+        self.reader.blocks += 1
+        return made
+
+    def settle(self, circuit, options, hour, sampled, queue):
+        def solved(turn):
+            self.due = self.number, hour, turn
+            return self.state(circuit, options, hour), None
+        try:
+            for records in controls.settle(sampled, queue, options['maxcontroliter'], solved, self.act):
+                if records is not None:
+                    self.test_acts(records)
+            self.test_acts([])
+        except controls.Undecided:
+            raise derived.Broken(self.block.behind(), 'undecided')
+        except controls.Limit:
+            self.test_acts([])
+            raise derived.Broken(self.block.behind(), 'control limit')
+
+    def test_acts(self, due):
+        if ['act %d %d %d' % tuple(it) for it in self.block.acts] != due:
+            raise derived.Broken(self.block.behind(), 'acts')
+
+    def settled(self, records):
+        pass
+
+    def bases(self, circuit, options):
+        pass
+
+
+COMMANDS = {'solve': Solve, 'cert': Cert, 'fault': Short, 'ladder': Ladder, 'large': Large, 'large-cert': LargeCert,
+            'large-check': LargeCheck}
 
 
 def run(files, words):

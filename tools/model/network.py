@@ -46,8 +46,8 @@ class Layout:
 class Network(Layout):
     """The rows of a circuit at its positions and at the powers of an hour."""
 
-    def __init__(self, circuit, hertz, hour=0):
-        check_ready(circuit, hertz)
+    def __init__(self, circuit, hertz, hour=0, is_large=False):
+        check_ready(circuit, hertz, is_large)
         super().__init__(circuit)
         self.circuit, self.hertz, self.hour = circuit, hertz, hour
         self.terms, self.owners = [], []      # (row, column, numerator, denominator), and the number of its element

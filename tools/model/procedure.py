@@ -81,6 +81,15 @@ class Procedure:
         self.net, self.step = net, 0
         c0 = invert(net, net.start_matrix())
         self.x = [-v for v in apply(c0, net.constants)]
+        self.seek(c0, limit, tolerance)
+        c1 = invert(net, net.jacobian(self.x))
+        self.move(c1)
+        self.move(c1)
+        self.inverse = c1
+
+    def seek(self, c0, limit, tolerance):
+        """From where it is, without magnitudes, to the first state that is still."""
+        net = self.net
         for l in net.loads:
             if l.mag is not None:
                 self.x[l.mag] = l.vn
@@ -94,22 +103,24 @@ class Procedure:
             if self.step == limit:
                 raise Fault(8, 'not converged', net.name(bad[0]), str(self.step), micro(abs(change[bad[0]])))
         self.steps = self.step
-        c1 = invert(net, net.jacobian(self.x))
-        self.move(c1)
-        self.move(c1)
-        self.inverse = c1
 
     def range(self):
         for k, v in enumerate(self.x):
             if abs(v) > B40:
                 raise Fault(7, 'out of range', self.net.name(k), str(self.step))
 
-    def move(self, c):
-        res = self.net.residual(self.x)
+    def test_residual(self, res):
         for k, v in enumerate(res):
             if abs(v) > 1 << 58:
                 raise Fault(7, 'out of range', self.net.name(k), str(self.step))
-        change = apply(c, res)
+
+    def change(self, c, res):
+        return apply(c, res)
+
+    def move(self, c):
+        res = self.net.residual(self.x)
+        self.test_residual(res)
+        change = self.change(c, res)
         self.x = [a - b for a, b in zip(self.x, change)]
         self.step += 1
         self.range()

@@ -3,11 +3,12 @@ from elements import line_ends, line_nodes, mentions, pairs_of, source_nodes
 from script import ONE, Refused
 
 MOST_COMPLEX, MOST_MAGNITUDES, MOST_OHMS = 480, 96, 10 ** 13
+MOST_ELEMENTS = 1 << 17      # of a large circuit, whose nodes and branches aren't counted
 BRANCHES = ('vsource', 'line', 'transformer')
 WITH_FREQUENCY = BRANCHES + ('linecode', 'capacitor', 'load')
 
 
-def check_ready(circuit, hertz):
+def check_ready(circuit, hertz, is_large=False):
     """Refuses a circuit at the place of the element that is to blame."""
     before = {}
     for key, e in circuit.items():
@@ -15,7 +16,10 @@ def check_ready(circuit, hertz):
         if cause:
             raise Refused(cause, e['place'])
         before[key] = e
-    check_limits(circuit)
+    if not is_large:
+        check_limits(circuit)
+    elif len(circuit) > MOST_ELEMENTS:
+        raise Refused('too many', list(circuit.values())[MOST_ELEMENTS]['place'])
     check_fed(circuit)
 
 
@@ -82,10 +86,10 @@ def is_outside(key, e, circuit):
 
 
 def is_winding_outside(name, e, w, circuit):
-    controlled = any(cls == 'regcontrol' and it['transformer'] == name and it['winding'] == w + 1
-                     for (cls, _), it in circuit.items())
     is_tap_outside = not e['mintap'][w] <= e['taps'][w] <= e['maxtap'][w]
-    return e['maxtap'][w] < e['mintap'][w] + e['numtaps'][w] or controlled and is_tap_outside
+    controlled = is_tap_outside and any(cls == 'regcontrol' and it['transformer'] == name and it['winding'] == w + 1
+                                        for (cls, _), it in circuit.items())
+    return e['maxtap'][w] < e['mintap'][w] + e['numtaps'][w] or controlled
 
 
 def is_no_phase(phase, e):
