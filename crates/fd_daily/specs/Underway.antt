@@ -3,6 +3,7 @@ use Rattle.std.specs.Prelude.{◌≡◌, ℕ, All, IfSome, IsSome, List, [], ◌
 use Rattle.fd_settings.specs.dss_model.declared.command.Blame.{Blame}
 use Rattle.fd_settings.specs.dss_circuit.Circuit.{CircuitView}
 use Rattle.fd_settings.specs.fd_devices.Building.{IsModest}
+use Rattle.fd_settings.specs.Daily.{AreDaily}
 use Rattle.fd_settings.specs.Hours.{hour_powers}
 use Rattle.fd_settings.specs.Positions.{next_closed, next_taps}
 use Rattle.fd_settings.specs.fd_devices.declared.fault.BuildFault.{BuildFault}
@@ -11,6 +12,7 @@ use Rattle.fd_settle.specs.fd_network.Built.{IsBuiltOf}
 use Rattle.fd_settle.specs.fd_network.Faults.{IsFaultOf}
 use Rattle.fd_settle.specs.fd_queue.Controls.{Positions}
 use Rattle.fd_settle.specs.fd_queue.Machine.{Machine}
+use Rattle.fd_settle.specs.fd_sample.Circuits.{probes_of}
 use Rattle.fd_settle.specs.fd_sample.Probes.{positions_in}
 use Rattle.fd_settle.specs.Controls.{AreAtWork, machine_of}
 use Rattle.fd_settle.specs.Plant.{Plant, plant_of}
@@ -42,11 +44,13 @@ machine_in at u = machine_of at u.clock u.controls
 abbrev pub settled_hour : CircuitView → DayView → Machine → List Round → Settle
 settled_hour c d m rounds = settled (plant_at c (hour_in d)) (begun_hour c d m) rounds
 
--- The network is the circuit's at these positions with the powers of the next hour, and the controls are its own.
+-- The network is the circuit's at these positions with the powers of the next hour; loads, probes and controls are its own.
 pub record IsUnderway (c : CircuitView) (at : CodePositions) (u : Underway) : Type 0 where
   pub positions : ArePositions c u.powers.loads (positions_in at)
   pub powers : u.powers.loads ≡ hour_powers c.elements (hour_in u.day)
   pub modest : All IsModest u.powers.loads
+  pub loads : AreDaily c.elements u.loads.each.items
+  pub probes : u.probes.items ≡ probes_of c.elements
   pub day : IsDay u.day
   pub hour : IsSome u.day.hour
   pub network : IsNetworkAt c u.powers.loads (positions_in at) u.net
@@ -56,6 +60,8 @@ pub record IsUnderway (c : CircuitView) (at : CodePositions) (u : Underway) : Ty
 -- what an hour leaves, however it ended
 pub record IsAfterHour (c : CircuitView) (at : CodePositions) (u : Underway) : Type 0 where
   pub positions : ArePositions c u.powers.loads (positions_in at)
+  pub loads : AreDaily c.elements u.loads.each.items
+  pub probes : u.probes.items ≡ probes_of c.elements
   pub day : IsDay u.day
   pub built : IsBuiltOf u.net c
   pub work : AreAtWork c at u.clock u.controls

@@ -1,8 +1,10 @@
 // The settle of the next hour of a Solve.
 ghost use Rattle.std.specs.Prelude.{◌≡◌, IfSome, OnOk, is_ok};
 ghost use Rattle.fd_settle.specs.dss_ready.Ready.{HasPassed};
+ghost use Rattle.fd_settings.specs.Daily.{AreDaily};
 ghost use Rattle.fd_settings.specs.Hours.{hour_powers};
 ghost use Rattle.fd_settle.specs.fd_network.Built.{IsBuiltOf};
+ghost use Rattle.fd_settle.specs.fd_sample.Circuits.{probes_of};
 ghost use Rattle.fd_settle.specs.fd_sample.Probes.{positions_in};
 ghost use Rattle.fd_settle.specs.Controls.{AreAtWork};
 ghost use Rattle.fd_settle.specs.Contract.{CallsAs, EndsAs, limits_of};
@@ -56,6 +58,8 @@ pub fn daily_run<V: Solver>(
     // What the next hour asks for.
     ensures powers { underway.new.powers ≡ underway.old.powers }
     ensures positions { ArePositions circuit.now underway.new.powers.loads (positions_in at.new) }
+    ensures loads { AreDaily circuit.now.elements underway.new.loads.each.items }
+    ensures probes { underway.new.probes.items ≡ probes_of circuit.now.elements }
     ensures day { IsDay underway.new.day }
     ensures built { IsBuiltOf underway.new.net circuit.now }
     ensures work { AreAtWork circuit.now at.new underway.new.clock underway.new.controls }

@@ -9,15 +9,18 @@ ghost use Rattle.fd_daily.specs.Underway.{IsAfterHour, IsRefusedAt, IsUnderway, 
 
 use crate::day::{Day, no_openings};
 use fd_settings::{
-    BuildFault, Circuit, Positions, Powers, hours_law, next_law, next_positions, powers_at,
+    BuildFault, Circuit, DailyLoads, Positions, Powers, hours_law, next_law, next_positions,
 };
-use fd_settle::{Clock, Controls, Network, Round};
+use fd_settle::{Clock, Controls, Network, Probe, Round, probes};
 use std::alloc::Global;
 
-/// The hours of a Solve under way: the network with the powers of the next hour, where the Solve stands, the time and the
-/// controls as the hour before left them, and room for the rounds of an hour.
+/// The hours of a Solve under way: its loads with what they follow, the probes of the circuit's controls, the network with
+/// the powers of the next hour, where the Solve stands, the time and the controls as the hour before left them, and room
+/// for the rounds of an hour.
 #[derive(Drop)]
 pub struct Underway {
+    pub loads: DailyLoads,
+    pub probes: Vec<Probe>,
     pub net: Network,
     pub powers: Powers,
     pub day: Day,
@@ -54,16 +57,20 @@ impl Underway {
         let day = Day::start(circuit);
         let start = next_positions(alloc, circuit, at)?;
         let hour = day.next_hour().unwrap();
-        let powers = powers_at(alloc, circuit, hour)?;
+        let loads = DailyLoads::of(alloc, circuit)?;
+        let powers = loads.powers_at(alloc, circuit, hour)?;
         let net = match Network::build(alloc, circuit, &start, &powers) {
             Ok(net) => net,
             Err(fault) => return Err(fault),
         };
+        let probes = probes(alloc, circuit, net.layout())?;
         let opened = no_openings(alloc, circuit)?;
         let clock = Clock { now: 0, opened };
-        let controls = Controls::start(alloc, circuit, net.layout(), &clock)?;
+        let controls = Controls::start(alloc, circuit, &probes, &clock)?;
         *at = start;
         Ok(Underway {
+            loads,
+            probes,
             net,
             powers,
             day,
@@ -103,7 +110,7 @@ impl Underway {
     {
         hours_law();
         let hour = self.hour();
-        let powers = powers_at(alloc, circuit, hour)?;
+        let powers = self.loads.powers_at(alloc, circuit, hour)?;
         match self.net.update(circuit, at, &powers) {
             Ok(()) => {
                 self.powers = powers;

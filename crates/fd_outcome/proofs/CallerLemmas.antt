@@ -27,6 +27,7 @@ use Rattle.fd_outcome.specs.Runs.{Runs}
 use Rattle.fd_outcome.specs.Way.{Way, whole}
 use Rattle.fd_outcome.specs.Parts.{Wrote, Printed, fault_doing, Asked, IsUnread, IsCutShort, GoesOn, events_in, EndsSo, EndsAt, Finishes}
 use Rattle.fd_outcome.specs.Untold.{CutsShort, EndsAtFault, Answers, EndsAtRead, IsUntold}
+pub use Rattle.fd_outcome.proofs.OneRead.{asked_for, asked_none, ends_failed, held_is, later_read}
 use Rattle.fd_outcome.proofs.Histories.{one_history, one_value, does_command, stays}
 pub use Rattle.fd_outcome.proofs.Lists.{body-append}
 use Rattle.fd_outcome.proofs.Lists.{texts-append}

@@ -28,6 +28,7 @@ statuses (fault.Undecided control low high edge scale) = is_status 11 (λ e. ome
 statuses (fault.ControlLimit acts) = is_status 12 (λ e. omega (arith, e)) (λ e. omega (arith, e)) (λ e. omega (arith, e)) (omega arith)
 statuses (fault.Certificate line broken) = is_status 13 (λ e. omega (arith, e)) (λ e. omega (arith, e)) (λ e. omega (arith, e)) (omega arith)
 statuses (fault.NoSuchNode node) = is_status 14 (λ e. omega (arith, e)) (λ e. omega (arith, e)) (λ e. omega (arith, e)) (omega arith)
+statuses (fault.NotRadial element) = is_status 15 (λ e. omega (arith, e)) (λ e. omega (arith, e)) (λ e. omega (arith, e)) (omega arith)
 
 -- ---- exactly one
 

@@ -4,6 +4,7 @@ pub mod Printing
 pub mod Ways
 pub mod Told
 pub mod Asked
+pub mod OneRead
 pub mod Given
 pub mod Handed
 pub mod CallerLemmas

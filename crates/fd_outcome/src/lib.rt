@@ -25,8 +25,9 @@ pub use fd_certfile::{
     header_record, upgrade, write_block,
 };
 pub use fd_report::{
-    Cause, Certified, Entry, Fault, Network, Position, Probe, RegProbe, Scale, Session,
-    SessionFault, Solution, accepted_record, act_record, bank_record, base_record, name_at,
-    pending_record, probes, record, records, said_law, said_room_law, short_records, size_text,
-    status, tap_record,
+    Cause, Certified, ControlMode, Entry, Fault, Ladder, Network, NetworkRows, Position, Probe,
+    RecordWriter, RegProbe, Scale, Session, SessionFault, Solution, Widened, accepted_record,
+    act_record, agreement_law, bank_record, base_record, first_loose, ladder_record, name_at,
+    pending_record, probes_law, record, records, row_mismatches, said_law, said_room_law,
+    short_records, size_text, status, tap_record, widen, widening_law,
 };

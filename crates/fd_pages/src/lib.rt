@@ -31,8 +31,10 @@ pub use summary::Summary;
 // Handed on from the crates below.
 pub use fd_bases::Layout;
 pub use fd_outcome::{
-    Cause, CertFileFault, Certified, Entry, Fault, Found, LibFault, Library, Record, Round, Scale,
-    Session, SessionFault, Sink, SinkFault, Solution, accepted_record, emit, name_at, read_law,
-    record, said_law, said_room_law, short_records, size_text, status, status_law, upgrade,
+    Cause, CertFileFault, Certified, ControlMode, Entry, Fault, Found, Ladder, LibFault, Library,
+    Network, NetworkRows, Record, Round, Scale, Session, SessionFault, Sink, SinkFault, Solution,
+    Widened, accepted_record, agreement_law, emit, first_loose, ladder_record, name_at, read_law,
+    record, row_mismatches, said_law, said_room_law, short_records, size_text, status, status_law,
+    upgrade, widen, widening_law,
 };
-pub use fd_settings::Mode;
+pub use fd_settings::{Mode, Options, PlaceKind, next_positions, powers_at};

@@ -4,6 +4,7 @@ ghost use Rattle.std.specs.List.{flat_map};
 ghost use Rattle.fd_outcome.specs.fd_outside.Emitted.{pieces_of};
 ghost use Rattle.fd_outcome.specs.fd_network.Built.{IsBuiltOf};
 ghost use Rattle.fd_outcome.specs.fd_report.declared.faults.Fault.{Fault as FaultView};
+ghost use Rattle.fd_outcome.specs.fd_sample.Circuits.{probes_of};
 ghost use Rattle.fd_outcome.specs.fd_sample.Probes.{positions_in};
 ghost use Rattle.fd_outcome.specs.Behind.{AsksNames};
 ghost use Rattle.fd_outcome.specs.Calls.{Style};
@@ -15,12 +16,12 @@ ghost use Rattle.fd_pages.specs.Pending.{pending_events};
 ghost use Rattle.fd_bases.specs.dss_layout.Layout.{layout_of, size_of};
 
 use fd_bases::Circuit;
-use fd_outcome::{Certified, Entry, Network, Record, Round};
+use fd_outcome::{Certified, Entry, Network, Probe, Record, Round};
 use fd_settings::Positions;
 use std::alloc::{AllocError, Global};
 
 /// An hour of a circuit that was solved, in a network of the circuit: the number of its settle in the run, from 1, the
-/// hour, and its rounds, in order.
+/// hour, its rounds, in order, and the probes of the circuit's controls.
 #[derive(Clone, Copy, Drop)]
 pub struct SolvedHour<'a> {
     pub circuit: &'a Circuit,
@@ -28,6 +29,7 @@ pub struct SolvedHour<'a> {
     pub number: u32,
     pub hour: u32,
     pub rounds: &'a [Round],
+    pub probes: &'a [Probe],
 }
 
 /// A way to print settles.
@@ -71,6 +73,7 @@ pub trait Page {
     ) -> Result<Vec<Record>, AllocError>
         requires network { IsBuiltOf made.now.net.now made.now.circuit.now }
         requires printable { IsPrintable made.now.circuit.now made.now.hour made.now.rounds.now (positions_in at.now) }
+        requires probes { made.now.probes.now ≡ probes_of made.now.circuit.now.elements }
         ensures { (l : Kept) → made.now.number ≡ l.settled + 1 → IfOk result (λ r. pieces_of r.items
             ≡ style.texts_in (settle (settle_made made.now.circuit.now made.now.hour l made.now.rounds.now settled
             (positions_in at.now)))) };

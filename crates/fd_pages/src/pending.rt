@@ -2,40 +2,46 @@
 ghost use Rattle.std.specs.Prelude.{◌≡◌, ◌++◌, IfOk, OnOk, Some, slice_get};
 ghost use Rattle.fd_bases.specs.dss_model.declared.element.Element.{Element};
 ghost use Rattle.fd_outcome.specs.fd_outside.Emitted.{pieces_of};
-ghost use Rattle.fd_outcome.specs.fd_report.Lines.{lines_of};
+ghost use Rattle.fd_outcome.specs.fd_report.Lines.{IsReady, lines_of};
 ghost use Rattle.fd_outcome.specs.Pages.{controls_of};
 ghost use Rattle.fd_pages.specs.Pending.{pending_rows_by, pending_texts};
 ghost use Rattle.fd_pages.specs.Places.{AreControlPlaces};
 
 use crate::records::control_places;
 use fd_bases::{Circuit, ElementName};
-use fd_outcome::{Entry, Record, pending_record};
+use fd_outcome::{Entry, Record, RecordWriter, pending_record};
 use std::alloc::{AllocError, Global};
 
 // Adds the record of an entry of the control of this name.
 fn push_pending(
     alloc: Global,
+    writer: &mut RecordWriter,
     name: &ElementName,
     entry: &Entry,
     into: &mut Vec<Record>,
 ) -> Result<(), AllocError>
-    ensures { (element : Element) → OnOk result (pieces_of into.new.items ≡ pieces_of into.old.items
+    requires writer { IsReady writer.old }
+    ensures writer { OnOk result (IsReady writer.new) }
+    ensures rows { (element : Element) → OnOk result (pieces_of into.new.items ≡ pieces_of into.old.items
         ++ lines_of (pending_rows_by (Some (name.now, element)) entry.now)) }
 {
-    into.push(pending_record(alloc, entry.time, name, entry.up)?)?;
+    into.push(pending_record(alloc, writer, entry.time, name, entry.up)?)?;
     Ok(())
 }
 
 // Adds the record of an entry, which names one of the controls at these places.
 fn add_pending(
     alloc: Global,
+    writer: &mut RecordWriter,
     circuit: &Circuit,
     controls: &[usize],
     entry: &Entry,
     into: &mut Vec<Record>,
 ) -> Result<(), AllocError>
-    requires { AreControlPlaces circuit.now.elements controls.now }
-    ensures { OnOk result (pieces_of into.new.items ≡ pieces_of into.old.items
+    requires writer { IsReady writer.old }
+    requires controls { AreControlPlaces circuit.now.elements controls.now }
+    ensures writer { OnOk result (IsReady writer.new) }
+    ensures rows { OnOk result (pieces_of into.new.items ≡ pieces_of into.old.items
         ++ lines_of (pending_rows_by (slice_get (controls_of circuit.now.elements) entry.now.control) entry.now)) }
 {
     match controls.get(entry.control as usize) {
@@ -43,7 +49,7 @@ fn add_pending(
         Some(place) => {
             let entries = circuit.elements().as_slice();
             let (name, _) = entries.get_index(*place).unwrap();
-            push_pending(alloc, name, entry, into)
+            push_pending(alloc, writer, name, entry, into)
         }
     }
 }
@@ -56,10 +62,18 @@ pub(crate) fn pending_records(
 ) -> Result<Vec<Record>, AllocError>
     ensures { IfOk result (λ r. pieces_of r.items ≡ pending_texts circuit.now entries.now) }
 {
+    let mut writer = RecordWriter::new(alloc);
     let mut records = Vec::new(alloc);
     let controls = control_places(alloc, circuit)?;
     for entry in entries {
-        add_pending(alloc, circuit, controls.as_slice(), entry, &mut records)?;
+        add_pending(
+            alloc,
+            &mut writer,
+            circuit,
+            controls.as_slice(),
+            entry,
+            &mut records,
+        )?;
     }
     Ok(records)
 }

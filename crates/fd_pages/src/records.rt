@@ -1,13 +1,13 @@
 // The records of a settle.
 ghost use Rattle.std.specs.Prelude.{◌≡◌, ◌+◌, ◌++◌, ◌∷◌, ◌<◌, ◌^◌, [], All, IfOk, OnOk, Option, Some, if◌then◌else◌, drop, length, map, slice_get};
 ghost use Rattle.fd_bases.specs.dss_layout.Layout.{layout_of, size_of};
-ghost use Rattle.fd_outcome.specs.dss_ready.Ready.{HasPassed};
 ghost use Rattle.fd_settings.specs.Hours.{hour_powers};
 ghost use Rattle.fd_outcome.specs.fd_outside.Emitted.{pieces_of};
 ghost use Rattle.fd_outcome.specs.fd_queue.Controls.{Positions as PositionsView, tap_at};
-ghost use Rattle.fd_outcome.specs.fd_report.Lines.{lines_of};
+ghost use Rattle.fd_outcome.specs.fd_report.Lines.{IsReady, lines_of};
 ghost use Rattle.fd_outcome.specs.fd_report.declared.faults.Fault.{Fault as FaultView};
 ghost use Rattle.fd_outcome.specs.fd_report.Solutions.{IsOfSize};
+ghost use Rattle.fd_outcome.specs.fd_sample.Circuits.{AreProbes, probes_of};
 ghost use Rattle.fd_outcome.specs.fd_sample.Probes.{HasDevice, positions_in};
 ghost use Rattle.fd_outcome.specs.fd_sample.Regulators.{changer_of};
 ghost use Rattle.fd_outcome.specs.fd_settle.Rounds.{seen};
@@ -25,8 +25,8 @@ use crate::controls::is_control;
 use crate::page::SolvedHour;
 use fd_bases::{Circuit, Element, ElementName, Layout, bases};
 use fd_outcome::{
-    Act, Position, Probe, Record, RegProbe, Round, Solution, act_record, bank_record, base_record,
-    probes, records, tap_record,
+    Act, Position, Probe, Record, RecordWriter, RegProbe, Round, Solution, act_record, bank_record,
+    base_record, probes_law, records, tap_record,
 };
 use fd_settings::Positions;
 use std::alloc::{AllocError, Global};
@@ -73,28 +73,34 @@ fn position_of(element: &Element, after: u32) -> Position
 // Adds the record of an act of this control.
 fn push_act(
     alloc: Global,
+    writer: &mut RecordWriter,
     name: &ElementName,
     element: &Element,
     act: &Act,
     into: &mut Vec<Record>,
 ) -> Result<(), AllocError>
-    ensures { OnOk result (pieces_of into.new.items ≡ pieces_of into.old.items ++ lines_of (act_rows_by (Some (name.now, element.now)) (seen act.now))) }
+    requires writer { IsReady writer.old }
+    ensures writer { OnOk result (IsReady writer.new) }
+    ensures rows { OnOk result (pieces_of into.new.items ≡ pieces_of into.old.items ++ lines_of (act_rows_by (Some (name.now, element.now)) (seen act.now))) }
 {
     let position = position_of(element, act.after);
-    into.push(act_record(alloc, act.time, name, act.steps, position)?)?;
+    into.push(act_record(alloc, writer, act.time, name, act.steps, position)?)?;
     Ok(())
 }
 
 // Adds the record of an act, which names one of the controls at these places.
 fn add_act(
     alloc: Global,
+    writer: &mut RecordWriter,
     circuit: &Circuit,
     controls: &[usize],
     act: &Act,
     into: &mut Vec<Record>,
 ) -> Result<(), AllocError>
-    requires { AreControlPlaces circuit.now.elements controls.now }
-    ensures { OnOk result (pieces_of into.new.items ≡ pieces_of into.old.items
+    requires writer { IsReady writer.old }
+    requires controls { AreControlPlaces circuit.now.elements controls.now }
+    ensures writer { OnOk result (IsReady writer.new) }
+    ensures rows { OnOk result (pieces_of into.new.items ≡ pieces_of into.old.items
         ++ lines_of (act_rows_by (slice_get (controls_of circuit.now.elements) act.now.control) (seen act.now))) }
 {
     match controls.get(act.control as usize) {
@@ -102,7 +108,7 @@ fn add_act(
         Some(place) => {
             let entries = circuit.elements().as_slice();
             let (name, element) = entries.get_index(*place).unwrap();
-            push_act(alloc, name, element, act, into)
+            push_act(alloc, writer, name, element, act, into)
         }
     }
 }
@@ -110,16 +116,19 @@ fn add_act(
 // Adds the records of a round's acts, which name controls at these places.
 fn add_acts(
     alloc: Global,
+    writer: &mut RecordWriter,
     circuit: &Circuit,
     controls: &[usize],
     acts: &[Act],
     into: &mut Vec<Record>,
 ) -> Result<(), AllocError>
-    requires { AreControlPlaces circuit.now.elements controls.now }
-    ensures { OnOk result (pieces_of into.new.items ≡ pieces_of into.old.items ++ lines_of (act_rows (controls_of circuit.now.elements) (map seen acts.now))) }
+    requires writer { IsReady writer.old }
+    requires controls { AreControlPlaces circuit.now.elements controls.now }
+    ensures writer { OnOk result (IsReady writer.new) }
+    ensures rows { OnOk result (pieces_of into.new.items ≡ pieces_of into.old.items ++ lines_of (act_rows (controls_of circuit.now.elements) (map seen acts.now))) }
 {
     for act in acts {
-        add_act(alloc, circuit, controls, act, into)?;
+        add_act(alloc, writer, circuit, controls, act, into)?;
     }
     Ok(())
 }
@@ -149,9 +158,17 @@ fn add_round(
         &certified.boxes,
         &certified.mismatch,
     );
-    let mut made = records(alloc, layout, number, hour, place, &solution)?;
+    let mut writer = RecordWriter::new(alloc);
+    let mut made = records(alloc, &mut writer, layout, number, hour, place, &solution)?;
     into.append(&mut made)?;
-    add_acts(alloc, circuit, controls, round.acts.as_slice(), into)
+    add_acts(
+        alloc,
+        &mut writer,
+        circuit,
+        controls,
+        round.acts.as_slice(),
+        into,
+    )
 }
 
 // Adds the records of the rounds, which are numbered from 0, and of their acts.
@@ -203,16 +220,19 @@ fn tap_of(at: &Positions, probe: &RegProbe) -> u32
 // Adds the record of the tap of a control of this name, if it is a regulator's.
 fn push_tap(
     alloc: Global,
+    writer: &mut RecordWriter,
     name: &ElementName,
     at: &Positions,
     probe: &Probe,
     into: &mut Vec<Record>,
 ) -> Result<(), AllocError>
-    requires { HasDevice (positions_in at.now) probe.now }
-    ensures { OnOk result (pieces_of into.new.items ≡ pieces_of into.old.items ++ lines_of (tap_rows_by (positions_in at.now) name.now probe.now)) }
+    requires writer { IsReady writer.old }
+    requires device { HasDevice (positions_in at.now) probe.now }
+    ensures writer { OnOk result (IsReady writer.new) }
+    ensures rows { OnOk result (pieces_of into.new.items ≡ pieces_of into.old.items ++ lines_of (tap_rows_by (positions_in at.now) name.now probe.now)) }
 {
     if let Probe::Regulator(probe) = probe {
-        into.push(tap_record(alloc, name, tap_of(at, probe))?)?;
+        into.push(tap_record(alloc, writer, name, tap_of(at, probe))?)?;
     }
     Ok(())
 }
@@ -220,6 +240,7 @@ fn push_tap(
 // Adds the record of the tap of the control of this number, if it is a regulator's. The controls stand at these places.
 fn add_tap(
     alloc: Global,
+    writer: &mut RecordWriter,
     circuit: &Circuit,
     at: &Positions,
     controls: &[usize],
@@ -227,9 +248,11 @@ fn add_tap(
     probe: &Probe,
     into: &mut Vec<Record>,
 ) -> Result<(), AllocError>
+    requires writer { IsReady writer.old }
     requires controls { AreControlPlaces circuit.now.elements controls.now }
     requires device { HasDevice (positions_in at.now) probe.now }
-    ensures { OnOk result (pieces_of into.new.items ≡ pieces_of into.old.items ++ lines_of
+    ensures writer { OnOk result (IsReady writer.new) }
+    ensures rows { OnOk result (pieces_of into.new.items ≡ pieces_of into.old.items ++ lines_of
         (tap_rows_of (positions_in at.now) (slice_get (controls_of circuit.now.elements) number) probe.now)) }
 {
     match controls.get(number) {
@@ -237,7 +260,7 @@ fn add_tap(
         Some(place) => {
             let entries = circuit.elements().as_slice();
             let (name, _) = entries.get_index(*place).unwrap();
-            push_tap(alloc, name, at, probe, into)
+            push_tap(alloc, writer, name, at, probe, into)
         }
     }
 }
@@ -245,21 +268,32 @@ fn add_tap(
 // Adds the record of each regulator's tap.
 fn add_taps(
     alloc: Global,
+    writer: &mut RecordWriter,
     circuit: &Circuit,
-    layout: &Layout,
+    probes: &[Probe],
     hour: u32,
     at: &Positions,
     into: &mut Vec<Record>,
 ) -> Result<(), AllocError>
-    requires ready { HasPassed circuit.now }
-    requires layout { layout.now ≡ layout_of circuit.now.elements }
+    requires writer { IsReady writer.old }
+    requires probes { probes.now ≡ probes_of circuit.now.elements }
+    requires fit { AreProbes circuit.now.elements probes.now }
     requires positions { ArePositions circuit.now (hour_powers circuit.now.elements hour) (positions_in at.now) }
-    ensures { OnOk result (pieces_of into.new.items ≡ pieces_of into.old.items ++ lines_of (tap_rows circuit.now.elements (positions_in at.now))) }
+    ensures writer { OnOk result (IsReady writer.new) }
+    ensures rows { OnOk result (pieces_of into.new.items ≡ pieces_of into.old.items ++ lines_of (tap_rows circuit.now.elements (positions_in at.now))) }
 {
     let controls = control_places(alloc, circuit)?;
-    let probes = probes(alloc, circuit, layout)?;
     for (number, probe) in probes.iter().enumerate() {
-        add_tap(alloc, circuit, at, controls.as_slice(), number, probe, into)?;
+        add_tap(
+            alloc,
+            writer,
+            circuit,
+            at,
+            controls.as_slice(),
+            number,
+            probe,
+            into,
+        )?;
     }
     Ok(())
 }
@@ -273,17 +307,20 @@ fn is_bank(element: &Element) -> bool
 // Adds the record of the bank of this name, whose state is the first of these, and gives the states behind it.
 fn add_bank<'a>(
     alloc: Global,
+    writer: &mut RecordWriter,
     name: &ElementName,
     closed: &'a [bool],
     into: &mut Vec<Record>,
 ) -> Result<&'a [bool], AllocError>
+    requires writer { IsReady writer.old }
+    ensures writer { OnOk result (IsReady writer.new) }
     ensures rows { OnOk result (pieces_of into.new.items ≡ pieces_of into.old.items ++ lines_of (bank_rows_first name.now closed.now)) }
     ensures left { IfOk result (λ left. left.now ≡ drop 1 closed.now) }
 {
     match closed {
         [] => Ok(closed),
         [is_closed, left @ ..] => {
-            into.push(bank_record(alloc, name, *is_closed)?)?;
+            into.push(bank_record(alloc, writer, name, *is_closed)?)?;
             Ok(left)
         }
     }
@@ -292,16 +329,19 @@ fn add_bank<'a>(
 // Adds the record of each bank, in the script's order.
 fn add_banks(
     alloc: Global,
+    writer: &mut RecordWriter,
     circuit: &Circuit,
     at: &Positions,
     into: &mut Vec<Record>,
 ) -> Result<(), AllocError>
-    ensures { OnOk result (pieces_of into.new.items ≡ pieces_of into.old.items ++ lines_of (bank_rows circuit.now.elements (positions_in at.now))) }
+    requires writer { IsReady writer.old }
+    ensures writer { OnOk result (IsReady writer.new) }
+    ensures rows { OnOk result (pieces_of into.new.items ≡ pieces_of into.old.items ++ lines_of (bank_rows circuit.now.elements (positions_in at.now))) }
 {
     let mut closed = at.closed.as_slice();
     for (name, element) in circuit.elements() {
         if is_bank(element) {
-            closed = add_bank(alloc, name, closed, into)?;
+            closed = add_bank(alloc, writer, name, closed, into)?;
         }
     }
     Ok(())
@@ -315,10 +355,14 @@ pub(crate) fn settled_records(
 ) -> Result<Vec<Record>, AllocError>
     requires network { IsBuiltOf made.now.net.now made.now.circuit.now }
     requires printable { IsPrintable made.now.circuit.now made.now.hour made.now.rounds.now (positions_in at.now) }
+    requires probes { made.now.probes.now ≡ probes_of made.now.circuit.now.elements }
     ensures { (l : Kept) → made.now.number ≡ l.settled + 1 → IfOk result (λ r. pieces_of r.items
         ≡ lines_of (report_rows (settle_made made.now.circuit.now made.now.hour l made.now.rounds.now settled
         (positions_in at.now)))) }
 {
+    // read for what the elements are
+    let _elements = made.circuit.elements();
+    probes_law();
     let layout = made.net.layout();
     let mut into = Vec::new(alloc);
     add_rounds(
@@ -330,8 +374,17 @@ pub(crate) fn settled_records(
         made.rounds,
         &mut into,
     )?;
-    add_taps(alloc, made.circuit, layout, made.hour, at, &mut into)?;
-    add_banks(alloc, made.circuit, at, &mut into)?;
+    let mut writer = RecordWriter::new(alloc);
+    add_taps(
+        alloc,
+        &mut writer,
+        made.circuit,
+        made.probes,
+        made.hour,
+        at,
+        &mut into,
+    )?;
+    add_banks(alloc, &mut writer, made.circuit, at, &mut into)?;
     Ok(into)
 }
 
@@ -367,9 +420,10 @@ pub(crate) fn base_records(alloc: Global, circuit: &Circuit) -> Result<Vec<Recor
     ensures { IfOk result (λ r. pieces_of r.items ≡ base_texts (bases_of circuit.now)) }
 {
     let bases = bases(alloc, circuit)?;
+    let mut writer = RecordWriter::new(alloc);
     let mut into = Vec::new(alloc);
     for base in &bases {
-        into.push(base_record(alloc, &base.bus, base.kv)?)?;
+        into.push(base_record(alloc, &mut writer, &base.bus, base.kv)?)?;
     }
     Ok(into)
 }

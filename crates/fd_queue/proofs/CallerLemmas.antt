@@ -3,8 +3,8 @@ use Rattle.std.proofs.Common.{◌≡◌, ◌⊎◌, inl, inr, ⊎_elim, ℤ, Boo
 use Rattle.fd_queue.specs.Quantities.{Quantity, IsProper}
 use Rattle.fd_queue.specs.Decisions.{Decision, IsMonotone, IsOfAll}
 use Rattle.fd_queue.specs.DecisionLaws.{MagnitudeLaw, ValueLaw}
-use Rattle.fd_queue.specs.MachineLaws.{CountLaw}
-use Rattle.fd_queue.proofs.Counts.{step_counts}
+use Rattle.fd_queue.specs.MachineLaws.{CountLaw, QuietLaw}
+use Rattle.fd_queue.proofs.Counts.{step_counts, step_quiet}
 use Rattle.fd_queue.proofs.Decisions.{decided_of_all}
 use Rattle.fd_queue.proofs.Quantities.{magnitudes_in_order, values_in_order}
 
@@ -28,3 +28,7 @@ value_order = values_in_order
 -- acts are counted
 pub counted : CountLaw
 counted = step_counts
+
+-- no entry is due where a step ends a settle
+pub quiet : QuietLaw
+quiet = step_quiet

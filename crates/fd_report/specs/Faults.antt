@@ -102,6 +102,7 @@ fields (fault.Undecided control low high edge scale) =
 fields (fault.ControlLimit acts) = codes "fault" ∷ codes "control limit" ∷ decimal acts ∷ []
 fields (fault.Certificate line broken) = codes "fault" ∷ codes "certificate" ∷ decimal line ∷ rule_word broken ∷ []
 fields (fault.NoSuchNode node) = codes "fault" ∷ codes "no such node" ∷ node_field node ∷ []
+fields (fault.NotRadial element) = codes "fault" ∷ codes "not radial" ∷ element_field element ∷ []
 
 -- ---- its status
 
@@ -118,3 +119,4 @@ status (fault.Undecided control low high edge scale) = 11
 status (fault.ControlLimit acts) = 12
 status (fault.Certificate line broken) = 13
 status (fault.NoSuchNode node) = 14
+status (fault.NotRadial element) = 15

@@ -5,6 +5,7 @@ pub mod Sizes
 pub mod Enclosed
 pub mod Records
 pub mod Faults
+pub mod Ladders
 pub mod Texts
 pub mod Bases
 pub mod Controls

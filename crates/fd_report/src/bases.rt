@@ -1,10 +1,10 @@
 // The records of the voltage bases of buses.
-ghost use Rattle.std.specs.Prelude.{◌≡◌, ◌+◌, ◌*◌, ◌/◌, ◌<◌, ◌≤◌, ◌^◌, IfOk};
+ghost use Rattle.std.specs.Prelude.{◌≡◌, ◌+◌, ◌*◌, ◌/◌, ◌<◌, ◌≤◌, ◌^◌, IfOk, OnOk};
 ghost use Rattle.fd_inverse.specs.fd_exact.Rounding.{near_div};
 ghost use Rattle.fd_report.specs.Bases.{base_fields};
-ghost use Rattle.fd_report.specs.Lines.{line_of};
+ghost use Rattle.fd_report.specs.Lines.{IsReady, line_of};
 
-use crate::line::record_of;
+use crate::line::RecordWriter;
 use dss_script::{Record, Text, micro_text};
 use std::alloc::{AllocError, Global};
 
@@ -31,9 +31,16 @@ fn near_micro(nano: i128) -> i128
 
 /// The record of the voltage base of a bus, in whole 10^-9 kV, as `base,sourcebus,4.160000`: in kV with six decimals,
 /// rounded to the nearest.
-pub fn base_record(alloc: Global, bus: &Text, kv: i128) -> Result<Record, AllocError>
-    ensures { IfOk result (λ r. r.bytes ≡ line_of (base_fields bus.now kv)) }
+pub fn base_record(
+    alloc: Global,
+    writer: &mut RecordWriter,
+    bus: &Text,
+    kv: i128,
+) -> Result<Record, AllocError>
+    requires { IsReady writer.old }
+    ensures ready { OnOk result (IsReady writer.new) }
+    ensures record { IfOk result (λ r. r.bytes ≡ line_of (base_fields bus.now kv)) }
 {
     let kv = micro_text(alloc, near_micro(kv))?;
-    record_of(alloc, &[b"base", bus.as_str().as_bytes(), kv.as_slice()])
+    writer.record(alloc, &[b"base", bus.as_str().as_bytes(), kv.as_slice()])
 }

@@ -1,9 +1,9 @@
 // The records of controls and of what they leave.
-ghost use Rattle.std.specs.Prelude.{◌≡◌, IfOk};
-ghost use Rattle.fd_report.specs.Lines.{line_of};
+ghost use Rattle.std.specs.Prelude.{◌≡◌, IfOk, OnOk};
+ghost use Rattle.fd_report.specs.Lines.{IsReady, line_of};
 ghost use Rattle.fd_report.specs.Controls.{act_fields, bank_fields, bank_position, pending_fields, position_text, tap_fields, tap_text, time_text, way_text};
 
-use crate::line::record_of;
+use crate::line::RecordWriter;
 use crate::names::element_field;
 use dss_script::{ElementName, Record, fixed_text};
 use std::alloc::{AllocError, Global};
@@ -66,18 +66,21 @@ fn bank_position(is_closed: bool) -> Position
 /// seconds; by how many steps it moves, with their sign (a bank closes by 1 and opens by -1); the position behind it.
 pub fn act_record(
     alloc: Global,
+    writer: &mut RecordWriter,
     time: u64,
     control: &ElementName,
     steps: i32,
     after: Position,
 ) -> Result<Record, AllocError>
-    ensures { IfOk result (λ r. r.bytes ≡ line_of (act_fields time control.now steps after)) }
+    requires { IsReady writer.old }
+    ensures ready { OnOk result (IsReady writer.new) }
+    ensures record { IfOk result (λ r. r.bytes ≡ line_of (act_fields time control.now steps after)) }
 {
     let time = time_text(alloc, time)?;
     let control = element_field(alloc, control)?;
     let steps = steps.to_string(alloc)?;
     let after = position_text(alloc, after)?;
-    record_of(
+    writer.record(
         alloc,
         &[
             b"act",
@@ -90,37 +93,54 @@ pub fn act_record(
 }
 
 /// The record of the tap of a regulator's winding, in whole 10^-5, as `tap,regcontrol.a,1.03750`.
-pub fn tap_record(alloc: Global, control: &ElementName, tap: u32) -> Result<Record, AllocError>
-    ensures { IfOk result (λ r. r.bytes ≡ line_of (tap_fields control.now tap)) }
+pub fn tap_record(
+    alloc: Global,
+    writer: &mut RecordWriter,
+    control: &ElementName,
+    tap: u32,
+) -> Result<Record, AllocError>
+    requires { IsReady writer.old }
+    ensures ready { OnOk result (IsReady writer.new) }
+    ensures record { IfOk result (λ r. r.bytes ≡ line_of (tap_fields control.now tap)) }
 {
     let control = element_field(alloc, control)?;
     let tap = tap_text(alloc, tap)?;
-    record_of(alloc, &[b"tap", control.as_slice(), tap.as_slice()])
+    writer.record(alloc, &[b"tap", control.as_slice(), tap.as_slice()])
 }
 
 /// The record of whether a bank of capacitors is closed, as `bank,capacitor.k,open`.
-pub fn bank_record(alloc: Global, bank: &ElementName, is_closed: bool) -> Result<Record, AllocError>
-    ensures { IfOk result (λ r. r.bytes ≡ line_of (bank_fields bank.now is_closed)) }
+pub fn bank_record(
+    alloc: Global,
+    writer: &mut RecordWriter,
+    bank: &ElementName,
+    is_closed: bool,
+) -> Result<Record, AllocError>
+    requires { IsReady writer.old }
+    ensures ready { OnOk result (IsReady writer.new) }
+    ensures record { IfOk result (λ r. r.bytes ≡ line_of (bank_fields bank.now is_closed)) }
 {
     let bank = element_field(alloc, bank)?;
     let position = position_text(alloc, bank_position(is_closed))?;
-    record_of(alloc, &[b"bank", bank.as_slice(), position.as_slice()])
+    writer.record(alloc, &[b"bank", bank.as_slice(), position.as_slice()])
 }
 
 /// The record of an entry that waits in the queue, as `pending,4000.000,regcontrol.a,up`: its time, in whole milliseconds,
 /// as seconds; its control; and whether that is to go up (more taps, or a closed bank) or down.
 pub fn pending_record(
     alloc: Global,
+    writer: &mut RecordWriter,
     time: u64,
     control: &ElementName,
     up: bool,
 ) -> Result<Record, AllocError>
-    ensures { IfOk result (λ r. r.bytes ≡ line_of (pending_fields time control.now up)) }
+    requires { IsReady writer.old }
+    ensures ready { OnOk result (IsReady writer.new) }
+    ensures record { IfOk result (λ r. r.bytes ≡ line_of (pending_fields time control.now up)) }
 {
     let time = time_text(alloc, time)?;
     let control = element_field(alloc, control)?;
     let way = way_text(alloc, up)?;
-    record_of(
+    writer.record(
         alloc,
         &[
             b"pending",

@@ -99,6 +99,11 @@ pub enum Fault {
     NoSuchNode {
         node: NodeName,
     },
+    /// A circuit isn't radial: this is the first of its elements that is never taken from the source outwards, or that
+    /// is a second source.
+    NotRadial {
+        element: ElementName,
+    },
 }
 
 /// The name of the real unknown at this place, which is that of its row, as `b.1 re`.
@@ -366,6 +371,13 @@ fn no_such_node_record(alloc: Global, node: &NodeName) -> Result<Record, AllocEr
     record_of(alloc, &[b"fault", b"no such node", node.as_slice()])
 }
 
+fn not_radial_record(alloc: Global, element: &ElementName) -> Result<Record, AllocError>
+    ensures { IfOk result (λ r. r.bytes ≡ line_of (fields (Fault.NotRadial element.now))) }
+{
+    let element = element_field(alloc, element)?;
+    record_of(alloc, &[b"fault", b"not radial", element.as_slice()])
+}
+
 /// The record of a fault: its fields, as csv writes them.
 pub fn record(alloc: Global, fault: &Fault) -> Result<Record, AllocError>
     ensures { IfOk result (λ r. r.bytes ≡ line_of (fields fault.now)) }
@@ -393,6 +405,7 @@ pub fn record(alloc: Global, fault: &Fault) -> Result<Record, AllocError>
         Fault::ControlLimit { acts } => control_limit_record(alloc, *acts),
         Fault::Certificate { line, rule } => certificate_record(alloc, *line, *rule),
         Fault::NoSuchNode { node } => no_such_node_record(alloc, node),
+        Fault::NotRadial { element } => not_radial_record(alloc, element),
     }
 }
 
@@ -413,5 +426,6 @@ pub fn status(fault: &Fault) -> u8
         Fault::ControlLimit { .. } => 12,
         Fault::Certificate { .. } => 13,
         Fault::NoSuchNode { .. } => 14,
+        Fault::NotRadial { .. } => 15,
     }
 }

@@ -6,7 +6,7 @@
 //! text of its fields as csv writes them. Want of memory is the one error.
 //!
 //! - `names`: the names of nodes, elements and unknowns
-//! - `line`: a record of its fields
+//! - `line`: a record of its fields, written by a writer that many records can share
 //! - `solution`: the numbers of a solution
 //! - `sizes`: the least and the greatest size of a phasor within its radii
 //! - `laws`: what these sizes say of other states
@@ -16,6 +16,7 @@
 //! - `bases`: the records of voltage bases
 //! - `shorts`: the records of a short circuit
 //! - `accepted`: the record of an accepted certificate
+//! - `ladders`: the record of a ladder sweep
 //! - `faults`: the records of faults
 #![tactic(auto)]
 
@@ -23,6 +24,7 @@ mod accepted;
 mod bases;
 mod controls;
 mod faults;
+mod ladders;
 mod laws;
 mod line;
 mod names;
@@ -36,12 +38,17 @@ pub use accepted::accepted_record;
 pub use bases::base_record;
 pub use controls::{Position, act_record, bank_record, pending_record, tap_record};
 pub use faults::{Cause, Fault, Scale, name_at, record, status};
+pub use ladders::{Ladder, ladder_record};
 pub use laws::size_law;
+pub use line::RecordWriter;
 pub use report::records;
 pub use shorts::short_records;
 pub use solution::Solution;
 
 // Handed on from the crates below.
 pub use dss_script::{Session, SessionFault, said_law, said_room_law, size_text};
-pub use fd_cert::Certified;
-pub use fd_sample::{Entry, Network, Probe, RegProbe, probes};
+pub use fd_cert::{
+    Certified, NetworkRows, Widened, agreement_law, first_loose, row_mismatches, widen,
+    widening_law,
+};
+pub use fd_sample::{ControlMode, Entry, Network, Probe, RegProbe, probes_law};

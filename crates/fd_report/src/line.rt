@@ -6,16 +6,16 @@ use csv::{Writer, WriterBuilder};
 use dss_script::{Bytes, Record};
 use std::alloc::{AllocError, Global};
 
-/// Writes records one behind another by one csv writer.
+/// Writes records one behind another by one csv writer, whose buffers are made once.
 #[derive(Drop)]
-pub(crate) struct RecordWriter {
+pub struct RecordWriter {
     writer: Writer<Vec<u8>>,
 }
 
 impl RecordWriter {
     /// A writer that has written no record. Its records may differ in their number of fields.
-    pub(crate) fn new(alloc: Global) -> RecordWriter
-        ensures { IsReady result }
+    pub fn new(alloc: Global) -> RecordWriter
+        ensures ready { IsReady result }
     {
         let writer = WriterBuilder::new()
             .flexible(true)

@@ -215,41 +215,27 @@ fn push_magnitudes(
 /// written once.
 pub fn records(
     alloc: Global,
+    writer: &mut RecordWriter,
     layout: &Layout,
     number: u32,
     hour: u32,
     round: u32,
     s: &Solution,
 ) -> Result<Vec<Record>, AllocError>
-    requires { IsOfSize (size_of layout.now) s.now }
-    ensures { IfOk result (λ records. pieces_of records.items ≡ lines_of (report_of layout.now number hour round s.now)) }
+    requires ready { IsReady writer.old }
+    requires solution { IsOfSize (size_of layout.now) s.now }
+    ensures ready { OnOk result (IsReady writer.new) }
+    ensures records { IfOk result (λ records. pieces_of records.items ≡ lines_of (report_of layout.now number hour round s.now)) }
 {
     let nodes = layout.nodes();
     let branches = layout.branches();
     let magnitudes = layout.magnitudes();
     let complex = nodes.len() + branches.len();
     let n = 2 * complex + magnitudes.len();
-    let mut writer = RecordWriter::new(alloc);
     let mut records = Vec::new(alloc);
-    records.push(solution_record(alloc, &mut writer, number, hour, round)?)?;
-    push_nodes(alloc, &mut writer, &mut records, s, n, nodes)?;
-    push_branches(
-        alloc,
-        &mut writer,
-        &mut records,
-        s,
-        n,
-        nodes.len(),
-        branches,
-    )?;
-    push_magnitudes(
-        alloc,
-        &mut writer,
-        &mut records,
-        s,
-        n,
-        2 * complex,
-        magnitudes,
-    )?;
+    records.push(solution_record(alloc, writer, number, hour, round)?)?;
+    push_nodes(alloc, writer, &mut records, s, n, nodes)?;
+    push_branches(alloc, writer, &mut records, s, n, nodes.len(), branches)?;
+    push_magnitudes(alloc, writer, &mut records, s, n, 2 * complex, magnitudes)?;
     Ok(records)
 }

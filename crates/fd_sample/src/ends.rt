@@ -1,5 +1,5 @@
 // What the ends of an interval decide.
-ghost use Rattle.std.specs.Prelude.{◌≡◌, ◌^◌, ◌<◌, Some, IsSome, IfSome, true, false};
+ghost use Rattle.std.specs.Prelude.{◌≡◌, ◌^◌, ◌<◌, None, Some, IsSome, IfSome, true, false};
 ghost use Rattle.fd_network.specs.fd_exact.Rounding.{ceil_div, floor_div};
 ghost use Rattle.fd_regctl.specs.fd_queue.Decisions.{same_decision};
 ghost use Rattle.fd_regctl.specs.fd_queue.Verdicts.{decision, is_decided};
@@ -40,24 +40,26 @@ pub fn agreed(squares: Interval<Square>, low: Verdict, high: Verdict, edge: i128
     ensures ends { IfUndecided result (λ lo hi at. AreRootEnds squares lo hi) }
     ensures edge { IfUndecided result (λ lo hi at. at ≡ edge) }
 {
-    match squares.root().ends() {
-        Some((low_end, high_end)) => {
+    match squares.ends() {
+        Some(_) => {
             if is_same(low, high) {
                 low
             } else {
-                Verdict::Undecided {
-                    low: low_end,
-                    high: high_end,
-                    edge,
-                }
+                between_roots(squares, edge)
             }
         }
-        None => Verdict::Undecided {
-            low: 0,
-            high: MOST,
-            edge,
-        },
+        None => between_roots(squares, edge),
     }
+}
+
+// The undecided verdict over an interval of squares: its magnitudes, rounded outward, and this edge.
+fn between_roots(squares: Interval<Square>, edge: i128) -> Verdict
+    ensures decides { decision_of result ≡ None }
+    ensures ends { IfUndecided result (λ lo hi at. AreRootEnds squares lo hi) }
+    ensures edge { IfUndecided result (λ lo hi at. at ≡ edge) }
+{
+    let (low, high) = squares.root().ends().unwrap_or((0, MOST));
+    Verdict::Undecided { low, high, edge }
 }
 
 /// The least and the greatest value of an interval; 0 and 0 at ALL.

@@ -1,4 +1,5 @@
 pub mod PowerOf
+pub mod Daily
 pub mod HourPowers
 pub mod Steps
 pub mod Next

@@ -1,5 +1,6 @@
 pub mod Snapshot
 pub mod Positions
+pub mod Daily
 pub mod Hours
 pub mod Modest
 pub use Rattle.fd_devices.specs.dss_model as dss_model

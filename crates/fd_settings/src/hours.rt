@@ -1,26 +1,95 @@
 // The powers of loads at an hour of a day.
-ghost use Rattle.std.specs.Prelude.{◌≡◌, ◌++◌, ◌%◌, pos, get_or, replicate, take, All, IfOk, IfSome, OnOk, option_copied};
+ghost use Rattle.std.specs.Prelude.{◌≡◌, ◌++◌, ◌%◌, pos, get_or, replicate, take, All, IfOk, IfSome, OnOk, Some, option_copied};
+ghost use Rattle.std.specs.Map.{lookup};
 ghost use Rattle.fd_devices.specs.dss_model.Ranges.{ones, IsBetween};
 ghost use Rattle.fd_devices.specs.dss_model.InRange.{ElementInRange, LoadInRange, LoadshapeInRange};
+ghost use Rattle.fd_devices.specs.dss_model.SameElement.{same_element};
 ghost use Rattle.fd_devices.specs.dss_model.declared.names.Class.TheVariants as class;
 ghost use Rattle.fd_devices.specs.dss_circuit.Lookups.{element_given};
 ghost use Rattle.fd_devices.specs.Building.{IsModest};
+ghost use Rattle.fd_settings.specs.Daily.{AreDaily, IsDaily, IsDailyAt, element_at};
 ghost use Rattle.fd_settings.specs.Hours.{HoursLaw, element_powers, followed_point, hour_powers, point_at, repeated_point};
 ghost use Rattle.fd_settings.specs.Snapshot.{power_of};
 
 use fd_devices::{
     Circuit, Class, Element, ElementName, Load, LoadPower, LoadPowers, Loadshape, Powers, Text,
-    find_element, load_power,
+    load_power,
 };
+use indexmap::IndexMap;
 use std::alloc::{AllocError, Global};
 
 // 1 as the point of a load shape, in 10^-9
 const ONE: i128 = 1_000_000_000;
 
-/// The power of each load phase at an hour, in order of definition, in whole thousandths of a volt-ampere: of the load's
-/// kw and its kvar or power factor times the point of its shape. Hour 0 is the snapshot, in which each point is 1. Hour 1
-/// has the first point of a shape, and after the last its points begin anew; a load that names no shape keeps 1 (OpenDSS
-/// manual, Load `daily`).
+// what stands for an element that is no load
+const NO_LOAD: DailyLoad = DailyLoad {
+    shape: None,
+    base: LoadPower { p: 0, q: 0 },
+};
+
+/// What is kept of a load through the hours of a Solve: the place among the elements of the shape that it follows, where
+/// it follows one, and the power of one of its phases where the point of that shape is 1.
+#[derive(Clone, Copy, Debug)]
+pub struct DailyLoad {
+    pub shape: Option<usize>,
+    pub base: LoadPower,
+}
+
+/// What is kept of a circuit's loads through the hours of a Solve: for each element in order that of a load. What stands
+/// for another element counts for nothing.
+#[derive(Drop)]
+pub struct DailyLoads {
+    pub each: Vec<DailyLoad>,
+}
+
+impl DailyLoads {
+    /// The loads of a circuit.
+    ///
+    /// # Errors
+    /// `AllocError` where the memory is refused.
+    pub fn of(alloc: Global, circuit: &Circuit) -> Result<DailyLoads, AllocError>
+        ensures { IfOk result (λ d. AreDaily circuit.now.elements d.each.items) }
+    {
+        let mut each = Vec::new(alloc);
+        let entries = circuit.elements().as_slice();
+        for place in 0..entries.len() {
+            let (_, element) = entries.get_index(place).unwrap();
+            each.push(daily_load(circuit, element)?)?;
+        }
+        Ok(DailyLoads { each })
+    }
+
+    /// The power of each load phase at an hour, in order of definition, in whole thousandths of a volt-ampere: of the
+    /// load's kw and its kvar or power factor times the point of its shape. Hour 0 is the snapshot, in which each point
+    /// is 1. Hour 1 has the first point of a shape, and after the last its points begin anew; a load that names no shape
+    /// keeps 1 (OpenDSS manual, Load `daily`).
+    ///
+    /// # Errors
+    /// `AllocError` where the memory is refused.
+    pub fn powers_at(
+        &self,
+        alloc: Global,
+        circuit: &Circuit,
+        hour: u32,
+    ) -> Result<Powers, AllocError>
+        requires { AreDaily circuit.now.elements self.now.each.items }
+        ensures powers { IfOk result (λ p. p.loads ≡ hour_powers circuit.now.elements hour) }
+        ensures modest { IfOk result (λ p. All IsModest p.loads) }
+    {
+        let each = self.each.as_slice();
+        let mut powers = Vec::new(alloc);
+        let entries = circuit.elements().as_slice();
+        for place in 0..entries.len() {
+            let (_, element) = entries.get_index(place).unwrap();
+            add_powers(&mut powers, circuit, hour, element, each[place])?;
+        }
+        Ok(Powers {
+            loads: LoadPowers::new(powers),
+        })
+    }
+}
+
+/// The same where one hour alone is asked for.
 ///
 /// # Errors
 /// `AllocError` where the memory is refused.
@@ -28,15 +97,21 @@ pub fn powers_at(alloc: Global, circuit: &Circuit, hour: u32) -> Result<Powers, 
     ensures powers { IfOk result (λ p. p.loads ≡ hour_powers circuit.now.elements hour) }
     ensures modest { IfOk result (λ p. All IsModest p.loads) }
 {
-    let mut powers = Vec::new(alloc);
-    let entries = circuit.elements().as_slice();
-    for place in 0..entries.len() {
-        let (_, element) = entries.get_index(place).unwrap();
-        add_powers(&mut powers, circuit, hour, element)?;
+    DailyLoads::of(alloc, circuit)?.powers_at(alloc, circuit, hour)
+}
+
+// What is kept of an element, if it is a load.
+fn daily_load(circuit: &Circuit, element: &Element) -> Result<DailyLoad, AllocError>
+    requires range { ElementInRange element.now }
+    ensures { IfOk result (IsDailyAt circuit.now.elements element.now) }
+{
+    match element {
+        Element::Load(load) => Ok(DailyLoad {
+            shape: shape_place(circuit, &load.daily)?,
+            base: phase_power(load, ONE),
+        }),
+        _ => Ok(NO_LOAD),
     }
-    Ok(Powers {
-        loads: LoadPowers::new(powers),
-    })
 }
 
 // The powers of a load's phases.
@@ -45,16 +120,33 @@ fn add_powers(
     circuit: &Circuit,
     hour: u32,
     element: &Element,
+    own: DailyLoad,
 ) -> Result<(), AllocError>
     requires range { ElementInRange element.now }
+    requires own { IsDailyAt circuit.now.elements element.now own }
     ensures powers { OnOk result (powers.new.items ≡ powers.old.items ++ element_powers circuit.now.elements hour element.now) }
     ensures modest { OnOk result (All IsModest powers.old.items → All IsModest powers.new.items) }
 {
     if let Element::Load(load) = element {
-        let point = find_point(circuit, load, hour)?;
-        add_phases(powers, load.phases, phase_power(load, point))?;
+        let power = load_power_at(circuit, load, own, hour);
+        add_phases(powers, load.phases, power)?;
     }
     Ok(())
+}
+
+// The power of one phase of a load at an hour.
+fn load_power_at(circuit: &Circuit, load: &Load, own: DailyLoad, hour: u32) -> LoadPower
+    requires load { LoadInRange load.now }
+    requires own { IsDaily circuit.now.elements load.now own }
+    ensures value { result ≡ power_of load.now (point_at circuit.now.elements load.now hour) }
+    ensures modest { IsModest result }
+{
+    let point = find_point(circuit, load, own, hour);
+    if point == ONE {
+        own.base
+    } else {
+        phase_power(load, point)
+    }
 }
 
 // The same power for each of so many phases.
@@ -80,33 +172,57 @@ fn phase_power(load: &Load, point: i128) -> LoadPower
 }
 
 // The point of a load's shape at an hour.
-fn find_point(circuit: &Circuit, load: &Load, hour: u32) -> Result<i128, AllocError>
-    ensures value { IfOk result (λ point. point ≡ point_at circuit.now.elements load.now hour) }
-    ensures within { IfOk result (λ point. IsBetween (pos 0) (ones 1000) point) }
+fn find_point(circuit: &Circuit, load: &Load, own: DailyLoad, hour: u32) -> i128
+    requires { IsDaily circuit.now.elements load.now own }
+    ensures value { result ≡ point_at circuit.now.elements load.now hour }
+    ensures within { IsBetween (pos 0) (ones 1000) result }
 {
     if hour == 0 {
-        return Ok(ONE);
+        return ONE;
     }
-    let shape = find_shape(circuit, &load.daily)?;
-    Ok(followed_point(shape, hour - 1))
+    followed_point(shape_at(circuit, own.shape), hour - 1)
 }
 
-// The shape that a load names, where it names one.
-fn find_shape<'a>(
-    circuit: &'a Circuit,
-    daily: &Option<Text>,
-) -> Result<Option<&'a Element>, AllocError>
-    ensures found { IfOk result (λ found. option_copied found ≡ element_given circuit.now.elements class.Loadshape daily.now) }
-    ensures in_range { IfOk result (λ found. IfSome (option_copied found) ElementInRange) }
+// The shape at a place among the elements, where there is one.
+fn shape_at(circuit: &Circuit, shape: Option<usize>) -> Option<&Element>
+    ensures found { option_copied result ≡ element_at circuit.now.elements shape }
+    ensures in_range { IfSome (option_copied result) ElementInRange }
+{
+    match shape {
+        Some(place) => element_in(circuit.elements(), place),
+        None => None,
+    }
+}
+
+// The element at a place, where there is one.
+fn element_in(elements: &IndexMap<ElementName, Element>, place: usize) -> Option<&Element>
+    ensures { option_copied result ≡ element_at elements.now.entries (Some place) }
+{
+    match elements.as_slice().get_index(place) {
+        Some((_, element)) => Some(element),
+        None => None,
+    }
+}
+
+// The place of the shape that a load names, where it names one.
+fn shape_place(circuit: &Circuit, daily: &Option<Text>) -> Result<Option<usize>, AllocError>
+    ensures { IfOk result (λ o. element_at circuit.now.elements o ≡ element_given circuit.now.elements class.Loadshape daily.now) }
 {
     match daily {
         Some(daily) => {
             let name = daily.clone()?;
             let class = Class::Loadshape;
-            Ok(find_element(circuit.elements(), &ElementName { class, name }))
+            Ok(place_of(circuit.elements(), &ElementName { class, name }))
         }
         None => Ok(None),
     }
+}
+
+// The place of the element of a name.
+fn place_of(elements: &IndexMap<ElementName, Element>, name: &ElementName) -> Option<usize>
+    ensures { element_at elements.now.entries result ≡ lookup (same_element name.now) elements.now.entries }
+{
+    elements.get_index_of(name)
 }
 
 // The point of the shape that a load names, and 1 where it names none.

@@ -4,7 +4,7 @@
 // range, and its powers as many (`snapshot_law`).
 // A later Solve starts with exactly the taps and states that the script set since the Solve before, and else with those of before
 // (`next_positions`); they too are as many as the elements have, and in range (`next_law`).
-// The powers of loads at an hour of a day follow their shapes exactly (`powers_at`); those of hour 0 are the snapshot's (`hours_law`),
+// The powers of loads at an hour of a day follow their shapes exactly (`powers_at`, and `DailyLoads` for the hours of a Solve); those of hour 0 are the snapshot's (`hours_law`),
 // and none is past 10^17 in size (`modest_law`).
 //
 // Modules: `snapshot` has the positions that the script gives, `positions` those with which a later Solve starts, `hours` the powers at
@@ -16,7 +16,7 @@ mod modest;
 mod positions;
 mod snapshot;
 
-pub use hours::{hours_law, powers_at};
+pub use hours::{DailyLoad, DailyLoads, hours_law, powers_at};
 pub use modest::modest_law;
 pub use positions::{next_law, next_positions};
 pub use snapshot::{script_positions, snapshot_law};

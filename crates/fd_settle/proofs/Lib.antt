@@ -15,3 +15,4 @@ pub mod CallerLemmas
 pub mod Keeping
 pub mod KeptRounds
 pub mod Grounds
+pub mod Ended

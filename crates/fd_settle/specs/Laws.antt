@@ -1,9 +1,10 @@
--- The laws of settles: the acts follow from the decisions alone.
-use Rattle.std.specs.Prelude.{◌≡◌, List, [], ◌∷◌, length, take}
+-- The laws of settles: the acts follow from the decisions alone, and nothing is due where a settle ends well.
+use Rattle.std.specs.Prelude.{◌≡◌, Bool, false, List, [], ◌∷◌, length, take}
+use Rattle.std.specs.List.{AllByRecursion}
 use Rattle.fd_sample.specs.fd_queue.Controls.{Positions}
 use Rattle.fd_sample.specs.fd_queue.Machine.{Machine, Setup}
 use Rattle.fd_settle.specs.Sampling.{Sampling}
-use Rattle.fd_settle.specs.Settle.{Outcome, Ends, Moves, outcome_of, settle_of}
+use Rattle.fd_settle.specs.Settle.{Outcome, Ends, Moves, Settled, outcome_of, settle_of}
 use Rattle.fd_settle.specs.Chosen.{AreOfHeld, AreChosen}
 
 -- ---- two lists whose decisions agree, solve by solve
@@ -39,3 +40,14 @@ abbrev pub WholeLaw : {Y X : Type 0} → (Positions → Y → X → Type 0) → 
 WholeLaw {Y} {X} holds of_ball of_state = AreOfHeld holds of_ball of_state →
     (s : Setup) (m : Machine) (ys : List Y) (xs : List X) → AreChosen s holds of_ball m ys xs → length xs ≡ length ys →
     settle_of s of_state m xs ≡ settle_of s of_ball m ys
+
+-- ---- the end
+
+-- no entry of the queue is due at the machine's time; so in static mode there is none
+abbrev pub NothingDue : Setup → Machine → Type 0
+NothingDue s m = AllByRecursion (λ e. s.rule.is_due m.now e ≡ false) m.queue
+
+-- (X stands for states or balls)
+abbrev pub EndLaw : Type 0 → Type 0
+EndLaw X = (s : Setup) (look : Positions → X → Sampling) (m : Machine) (xs : List X)
+    → (settle_of s look m xs).end ≡ Settled → NothingDue s (settle_of s look m xs).machine

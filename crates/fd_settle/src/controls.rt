@@ -1,12 +1,10 @@
 // The controls of a settle: they are sampled over a certified state, wait in the queue, and move their devices.
 ghost use Rattle.std.specs.Prelude.{◌≡◌, ℕ, ◌+◌, ◌<◌, ◌≤◌, ◌^◌, IfOk, List, [], length, map, vec_capacity};
-ghost use Rattle.fd_sample.specs.dss_layout.Layout.{layout_of, size_of};
-ghost use Rattle.fd_sample.specs.dss_ready.Ready.{HasPassed};
 ghost use Rattle.fd_sample.specs.fd_devices.declared.settings.Positions.{Positions as CodePositions};
 ghost use Rattle.fd_sample.specs.fd_elements.declared.powers.LoadPower.{LoadPower};
 ghost use Rattle.fd_cert.specs.Claims.{claim_in};
 ghost use Rattle.fd_sample.specs.Balls.{IsBall};
-ghost use Rattle.fd_sample.specs.Circuits.{AreProbes};
+ghost use Rattle.fd_sample.specs.Circuits.{AreProbes, probes_of};
 ghost use Rattle.fd_sample.specs.Probes.{positions_in};
 ghost use Rattle.fd_sample.specs.dss_circuit.Circuit.{CircuitView};
 ghost use Rattle.fd_sample.specs.fd_queue.Machine.{hour_begun};
@@ -27,8 +25,8 @@ use crate::sampling::sample_all;
 use crate::state::ControlState;
 use fd_cert::Certified;
 use fd_sample::{
-    BankStates, Circuit, ControlMode, Entry, Layout, Positions, Probe, Queue, Taps, Timing,
-    Verdict, away_law, own_law, probes, queue_law, room_law, tap_law,
+    BankStates, Circuit, ControlMode, Entry, Positions, Probe, Queue, Taps, Timing, Verdict,
+    away_law, own_law, queue_law, room_law, tap_law,
 };
 use std::alloc::{AllocError, Global};
 use std::mem;
@@ -47,19 +45,19 @@ pub struct Controls {
 }
 
 impl Controls {
-    /// The controls of a circuit that passed the tests of Solve before the first hour of a Solve: none has moved, and the
-    /// queue is empty. There are none in controlmode off. All room that they need is taken here.
+    /// The controls of a circuit that passed the tests of Solve, by their probes, before the first hour of a Solve: none has
+    /// moved, and the queue is empty. There are none in controlmode off. All room that they need is taken here.
     ///
     /// # Errors
     /// `AllocError` where the memory is refused.
     pub fn start(
         alloc: Global,
         circuit: &Circuit,
-        layout: &Layout,
+        probes: &[Probe],
         clock: &Clock,
     ) -> Result<Controls, AllocError>
-        requires ready { HasPassed circuit.now }
-        requires layout { layout.now ≡ layout_of circuit.now.elements }
+        requires probes { probes.now ≡ probes_of circuit.now.elements }
+        requires fit { AreProbes circuit.now.elements probes.now }
         requires clock { IsClock circuit.now clock.now }
         ensures machine { IfOk result (λ c. (at : CodePositions)
             → machine_of at clock.entry.now c
@@ -70,8 +68,8 @@ impl Controls {
     {
         // (read for its clause: there are at most 2^17, and no more controls)
         let _elements = circuit.elements();
-        let probes = taking_part(alloc, circuit, layout)?;
-        let states = fresh_states(alloc, &probes, &clock.opened)?;
+        let probes = taking_part(circuit, probes);
+        let states = fresh_states(alloc, probes, &clock.opened)?;
         let count = states.len();
         Ok(Controls {
             states,
@@ -203,16 +201,16 @@ impl Controls {
     }
 }
 
-// What is known of the controls that take part in a settle.
-fn taking_part(alloc: Global, circuit: &Circuit, layout: &Layout) -> Result<Vec<Probe>, AllocError>
-    requires ready { HasPassed circuit.now }
-    requires layout { layout.now ≡ layout_of circuit.now.elements }
-    ensures probes { IfOk result (λ ps. ps.items ≡ controls_in circuit.now) }
-    ensures fit { IfOk result (λ ps. AreProbes circuit.now.elements ps.items) }
+// The probes of the controls that take part in a settle, among those of all.
+fn taking_part<'a>(circuit: &Circuit, probes: &'a [Probe]) -> &'a [Probe]
+    requires probes { probes.now ≡ probes_of circuit.now.elements }
+    requires fit { AreProbes circuit.now.elements probes.now }
+    ensures probes { result.now ≡ controls_in circuit.now }
+    ensures fit { AreProbes circuit.now.elements result.now }
 {
     match circuit.options().controlmode {
-        ControlMode::Off => Ok(Vec::new(alloc)),
-        ControlMode::Static | ControlMode::Time => probes(alloc, circuit, layout),
+        ControlMode::Off => &[],
+        ControlMode::Static | ControlMode::Time => probes,
     }
 }
 

@@ -1,7 +1,7 @@
 // The laws of settles.
 ghost use Rattle.fd_sample.specs.fd_queue.Controls.{Positions};
 ghost use Rattle.fd_settle.specs.Computed.{ComputationLaw};
-ghost use Rattle.fd_settle.specs.Laws.{AgreeLaw, HistoryLaw, WholeLaw};
+ghost use Rattle.fd_settle.specs.Laws.{AgreeLaw, EndLaw, HistoryLaw, WholeLaw};
 ghost use Rattle.fd_settle.specs.Sampling.{Sampling};
 
 use fd_sample::count_law;
@@ -29,6 +29,11 @@ pub fn history_law<C, Y, X, S: Sampled<C, Y, X>>()
 /// A law: a state for each solve gives the end too. Does nothing.
 pub fn whole_law<C, Y, X, S: Sampled<C, Y, X>>()
     ensures { (c : C) → WholeLaw (S.holds c) (S.of_ball c) (S.of_state c) }
+{}
+
+/// A law: where a settle ends well, no entry of the queue that it leaves is due at its time. Does nothing.
+pub fn end_law<X>()
+    ensures { EndLaw X }
 {}
 
 /// A law: a settle whose states are computed has exactly one computation: its rounds, its ending, and what it leaves.

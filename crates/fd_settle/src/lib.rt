@@ -15,7 +15,8 @@
 // - `settling`: the settle
 // - `fault`: why it ends
 // - `kept`: what rounds keep of the machine, and when a claim is sound
-// - `laws`: the acts follow from the decisions alone, and where states are computed a settle has exactly one computation
+// - `laws`: the acts follow from the decisions alone, nothing is due where a settle ends well, and where states are
+//   computed a settle has exactly one computation
 #![tactic(auto)]
 
 mod acting;
@@ -38,7 +39,7 @@ pub use compute::{Compute, ComputeFault};
 pub use controls::Controls;
 pub use fault::SettleFault;
 pub use kept::{kept_law, kept_rounds_law, sound_at_law};
-pub use laws::{Sampled, agree_law, computation_law, history_law, whole_law};
+pub use laws::{Sampled, agree_law, computation_law, end_law, history_law, whole_law};
 pub use round::{Act, Round};
 pub use settling::settle;
 pub use solver::Solver;
@@ -50,6 +51,6 @@ pub use fd_cert::{
 };
 pub use fd_inject::{Dense, Limits, NetworkRows, Point, Rows, SolveFault};
 pub use fd_sample::{
-    CapProbe, CapState, Entry, Measured, Network, Queue, ReadyFault, RegProbe, RegState, Timing,
-    Verdict, bank_verdict, network_law, passed_law, ready, regulator_verdict,
+    CapProbe, CapState, Entry, Measured, Network, Probe, Queue, ReadyFault, RegProbe, RegState,
+    Timing, Verdict, bank_verdict, network_law, passed_law, probes, ready, regulator_verdict,
 };

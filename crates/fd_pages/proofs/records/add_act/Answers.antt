@@ -16,23 +16,23 @@ unwrap-requires c =
     let at = slice_get_read c.args.controls.now (length c.args.controls.now) c.args.act.now.control c.in-Some.place.now refl look.3.0 look.1 in
     let entries = c.as_slice-entries.ensures.entries ∙ c.elements.ensures.entries in
     is_found c.args.circuit.now.elements c.args.controls.now c.args.act.now.control c.in-Some.place.now deref_pair _
-    c.requires at (c.get_index.ensures.entry ∙ ap (λ es. slice_get es c.in-Some.place.now) entries)
+    c.requires.controls at (c.get_index.ensures.entry ∙ ap (λ es. slice_get es c.in-Some.place.now) entries)
 
-pub returns-in-None : goal.returns-in-None
-returns-in-None c =
+pub returns-in-None-clause-rows : goal.returns-in-None-clause-rows
+returns-in-None-clause-rows c =
     let look = c.in-None.ensures.lookup in
-    let none = no_control c.args.circuit.now.elements c.args.controls.now c.args.act.now.control c.requires
+    let none = no_control c.args.circuit.now.elements c.args.controls.now c.args.act.now.control c.requires.controls
     (slice_get_past c.args.controls.now c.args.act.now.control look.3) in
     no_rows (pieces_of c.args.into.now.items) _ (ap (λ o. act_rows_by o (seen c.args.act.now)) none)
 
-pub returns-in-Some : goal.returns-in-Some
-returns-in-Some c =
+pub returns-in-Some-clause-rows : goal.returns-in-Some-clause-rows
+returns-in-Some-clause-rows c =
     let look = c.in-Some.ensures.lookup in
     let at = slice_get_read c.args.controls.now (length c.args.controls.now) c.args.act.now.control c.in-Some.place.now refl look.3.0 look.1 in
     let entries = c.as_slice-entries.ensures.entries ∙ c.elements.ensures.entries in
     let here = ap (λ es. slice_get es c.in-Some.place.now) (sym entries) ∙ sym c.get_index.ensures.entry ∙ ap (option_map deref_pair) c.unwrap.ensures in
-    let control = control_at c.args.circuit.now.elements c.args.controls.now c.args.act.now.control c.in-Some.place.now c.requires at ∙ here in
+    let control = control_at c.args.circuit.now.elements c.args.controls.now c.args.act.now.control c.in-Some.place.now c.requires.controls at ∙ here in
     subst (λ o.
     OnOk c.push_act.result (pieces_of c.push_act.new.into.items
     ≡ pieces_of c.args.into.now.items ++ lines_of (act_rows_by o (seen c.args.act.now))))
-    (sym control) c.push_act.ensures
+    (sym control) c.push_act.ensures.rows

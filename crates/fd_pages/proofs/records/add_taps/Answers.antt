@@ -9,16 +9,17 @@ use Rattle.fd_pages.proofs.records.add_taps.Goals as goal
 pub loop-number-preserved : goal.loop-number-preserved
 loop-number-preserved c =
     let es = c.args.circuit.now.elements in
-    let same = c.deref-probe-items.ensures.value ∙ c.in_ok-probes.ensures.probes in
-    taps_next (positions_in c.args.at.now) (controls_of es) (probes_of es) c.deref-probe-items.result.now
-    c.loop-number.number _ _ _ (pieces_of c.loop-number.into.items) _ same c.loop-number-test.true (omega arith)
-    c.loop-number.invariant c.in_ok-add_tap.ensures
+    record {
+      writer = c.in_ok-add_tap.ensures.writer;
+      rows = taps_next (positions_in c.args.at.now) (controls_of es) (probes_of es) c.args.probes.now
+          c.loop-number.number _ _ _ (pieces_of c.loop-number.into.items) _ c.requires.probes c.loop-number-test.true (omega arith)
+          c.loop-number.invariant.rows c.in_ok-add_tap.ensures.rows;
+    }
 
-pub returns : goal.returns
-returns c =
+pub returns-clause-rows : goal.returns-clause-rows
+returns-clause-rows c =
     let es = c.args.circuit.now.elements in
-    let same = c.deref-probe-items.ensures.value ∙ c.in_ok-probes.ensures.probes in
-    let past : length (probes_of es) ≤ c.loop-number.number = subst (λ ps. length ps ≤ c.loop-number.number) same c.loop-number-test.false in
+    let past : length (probes_of es) ≤ c.loop-number.number = subst (λ ps. length ps ≤ c.loop-number.number) c.requires.probes c.loop-number-test.false in
     no_rows (pieces_of c.loop-number.into.items) _
     (taps_end (positions_in c.args.at.now) (controls_of es) (probes_of es) c.loop-number.number past)
-    ∙ c.loop-number.invariant
+    ∙ c.loop-number.invariant.rows

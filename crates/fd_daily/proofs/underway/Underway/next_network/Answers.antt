@@ -23,6 +23,8 @@ returns-in-Ok-clause-underway c =
       };
       powers = loads ∙ ap (hour_powers circuit.elements) c.hour-hour.ensures;
       modest = c.in_ok-powers.ensures.modest;
+      loads = c.requires.after_hour.loads;
+      probes = c.requires.after_hour.probes;
       day = c.requires.after_hour.day;
       hour = c.requires.hour;
       network = network_there circuit c.args.at.now c.in_ok-powers.powers c.update.new.self c.in-Ok.ensures.built

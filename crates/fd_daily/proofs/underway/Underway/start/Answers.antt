@@ -1,4 +1,4 @@
-use Rattle.std.proofs.Common.{◌≡◌, ◌∙◌, ℕ, List, ◌∷◌, Option, Some, None, ap, arith, length, refl, sym, subst}
+use Rattle.std.proofs.Common.{◌≡◌, ◌∙◌, ℕ, List, ◌∷◌, Option, Some, None, Err, ap, arith, length, refl, rules, sym, subst}
 use Rattle.std.proofs.lemmas.List.{length-replicate}
 use Rattle.std.specs.Prelude.{All, IsSome}
 use Rattle.std.specs.Option.{unwrap_or}
@@ -12,6 +12,7 @@ use Rattle.fd_settle.specs.Controls.{machine_of}
 use Rattle.fd_settle.specs.Plant.{started}
 use Rattle.fd_settle.specs.Start.{ArePositions, IsClock}
 use Rattle.fd_settle.proofs.CallerLemmas.{none_early}
+use Rattle.fd_settings.specs.fd_devices.declared.fault.BuildFault.TheVariants as build_fault
 use Rattle.fd_daily.specs.Day.{before_first}
 use Rattle.fd_daily.specs.Hours.{hours_of}
 use Rattle.fd_daily.specs.Underway.{start_from}
@@ -71,6 +72,8 @@ returns-clause-underway c =
       positions = positions d;
       powers = loads ∙ ap (λ (o : Option ℕ). hour_powers circuit.elements (unwrap_or o 0)) (sym some);
       modest = c.in_ok-powers.ensures.modest;
+      loads = c.in_ok-loads.ensures;
+      probes = c.in_ok-probes.ensures.probes;
       day = c.start-day.ensures.day;
       hour = subst IsSome (sym some) refl;
       network = network_there circuit c.in_ok-start.start c.in_ok-powers.powers c.in-Ok.net c.in-Ok.ensures.built
@@ -92,3 +95,13 @@ returns-in-Err-clause-refused c =
     refused_at circuit c.in_ok-start.start c.in_ok-powers.powers hour (hours_behind day) (hours_of circuit.options) (start_from circuit before)
     (start_is circuit before c.in_ok-start.start c.in_ok-start.ensures.taps c.in_ok-start.ensures.closed) first c.in_ok-powers.ensures.powers
     c.in-Err.fault c.in-Err.ensures.fault
+
+pub returns-in_err-opened-clause-refused : goal.returns-in_err-opened-clause-refused
+returns-in_err-opened-clause-refused c =
+    let memory : c.from_residual-in_err-opened.result ≡ Err build_fault.NoMemory = search (rules, c.from_residual-in_err-opened.ensures) in
+    rw memory tt
+
+pub returns-in_err-controls-clause-refused : goal.returns-in_err-controls-clause-refused
+returns-in_err-controls-clause-refused c =
+    let memory : c.from_residual-in_err-controls.result ≡ Err build_fault.NoMemory = search (rules, c.from_residual-in_err-controls.ensures) in
+    rw memory tt

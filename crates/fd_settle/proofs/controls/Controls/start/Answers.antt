@@ -8,11 +8,11 @@ use Rattle.fd_settle.proofs.controls.Controls.start.Goals as goal
 
 fresh : (c : After-len-count)
     → c.in_ok-states.states.items ≡ fresh_from c.args.clock.now.opened.items 0 (controls_in c.args.circuit.now)
-fresh c = c.in_ok-states.ensures ∙ ap (λ os. fresh_from os 0 c.deref.result.now) c.deref-2.ensures.value
-    ∙ ap (fresh_from c.args.clock.now.opened.items 0) (c.deref.ensures.value ∙ c.in_ok-probes.ensures.probes)
+fresh c = c.in_ok-states.ensures ∙ ap (λ os. fresh_from os 0 c.taking_part-probes.result.now) c.deref.ensures.value
+    ∙ ap (fresh_from c.args.clock.now.opened.items 0) c.taking_part-probes.ensures.probes
 
 fit : (c : After-len-count) → AreProbes c.args.circuit.now.elements (controls_in c.args.circuit.now)
-fit c = subst (AreProbes c.args.circuit.now.elements) c.in_ok-probes.ensures.probes c.in_ok-probes.ensures.fit
+fit c = subst (AreProbes c.args.circuit.now.elements) c.taking_part-probes.ensures.probes c.taking_part-probes.ensures.fit
 
 few : (c : After-len-count) → length c.in_ok-states.states.items ≤ 2 ^ 17
 few c =
@@ -29,8 +29,8 @@ begun : (c : After-timing_of) → IsStarted c.args.circuit.now c.args.clock.now 
   timing = c.timing_of.result;
 })
 begun c = record {
-  states = c.in_ok-states.ensures ∙ ap (λ os. fresh_from os 0 c.deref.result.now) c.deref-2.ensures.value
-      ∙ ap (fresh_from c.args.clock.now.opened.items 0) (c.deref.ensures.value ∙ c.in_ok-probes.ensures.probes);
+  states = c.in_ok-states.ensures ∙ ap (λ os. fresh_from os 0 c.taking_part-probes.result.now) c.deref.ensures.value
+      ∙ ap (fresh_from c.args.clock.now.opened.items 0) c.taking_part-probes.ensures.probes;
   entries = c.in_ok-with_room.ensures.empty;
   next = c.in_ok-with_room.ensures.next;
   spare = search rules;
@@ -53,5 +53,5 @@ returns-clause-machine c = λ at. started_machine _ _ _ at (begun (goal.at.retur
 pub returns-clause-work : goal.returns-clause-work
 returns-clause-work c = λ at powers positions.
     started_work _ _ _ at powers (begun (goal.at.returns-clause-work c).After-timing_of) c.requires.clock positions
-    (subst (AreProbes c.args.circuit.now.elements) c.in_ok-probes.ensures.probes c.in_ok-probes.ensures.fit) c.elements-elements.ensures.few
+    (subst (AreProbes c.args.circuit.now.elements) c.taking_part-probes.ensures.probes c.taking_part-probes.ensures.fit) c.elements-elements.ensures.few
     c.options.ensures.in_range.maxcontroliter

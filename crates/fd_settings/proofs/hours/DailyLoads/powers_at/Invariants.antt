@@ -4,7 +4,7 @@ use Rattle.fd_devices.specs.dss_model.declared.element.Element.{Element}
 use Rattle.fd_devices.specs.dss_model.declared.names.ElementName.{ElementName}
 use Rattle.fd_devices.specs.Building.{IsModest}
 use Rattle.fd_settings.specs.Hours.{element_powers}
-use Rattle.fd_settings.proofs.hours.powers_at.Given as goal
+use Rattle.fd_settings.proofs.hours.DailyLoads.powers_at.Given as goal
 
 abbrev pub invariant-loop-place : goal.invariant-loop-place
 invariant-loop-place l = record {

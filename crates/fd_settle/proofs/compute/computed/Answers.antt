@@ -1,6 +1,6 @@
 use Rattle.fd_cert.specs.Claims.{claim_in}
 use Rattle.fd_settle.proofs.Computing.{computed_of}
-use Rattle.fd_settle.proofs.compute.ComputeSolver.solve.Goals as goal
+use Rattle.fd_settle.proofs.compute.computed.Goals as goal
 
 pub returns-in-Ok-certify-clause-gives : goal.returns-in-Ok-certify-clause-gives
 returns-in-Ok-certify-clause-gives c =
