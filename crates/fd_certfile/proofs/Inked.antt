@@ -20,7 +20,7 @@ above_tested : (c : ℕ) (text : List ℕ) → list_all (λ d. nat_lt c d) text 
 above_tested c [] h = tt
 above_tested c (d ∷ text) h = let p = and_parts (nat_lt c d) (list_all (λ d. nat_lt c d) text) h in (ltb-true c d p.0, above_tested c text p.1)
 
-above_digits : (ds : List ℕ) → AllDigits 10 ds → Above 32 ds
+pub above_digits : (ds : List ℕ) → AllDigits 10 ds → Above 32 ds
 above_digits [] h = tt
 above_digits (c ∷ cs) h = let r = digit_from_value c h.0 in (omega (arith, r.0), above_digits cs h.1)
 

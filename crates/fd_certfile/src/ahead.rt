@@ -88,7 +88,7 @@ fn body(
         Ok(read) => read,
         Err(stop) => return Err(moved(stop, 1)),
     };
-    let (cells, behind) = match rows(alloc, keep, version, count, rest) {
+    let (cells, behind) = match rows(alloc, keep, version, count as u64, rest) {
         Ok(read) => read,
         Err(stop) => return Err(moved(stop, 1 + count)),
     };

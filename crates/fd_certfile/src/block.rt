@@ -85,7 +85,7 @@ pub(crate) fn parts(
 }
 
 // Room for the entries of so many rows of so many, where they are kept.
-fn room(alloc: Global, keep: bool, count: u128) -> Result<Vec<i128>, AllocError>
+fn room(alloc: Global, keep: bool, count: u64) -> Result<Vec<i128>, AllocError>
     ensures { IfOk result (λ cells. cells.items ≡ []) }
 {
     if !keep {
@@ -103,14 +103,14 @@ pub(crate) fn rows(
     alloc: Global,
     keep: bool,
     version: Version,
-    count: u128,
+    count: u64,
     bytes: &[u8],
 ) -> Result<(Vec<i128>, &[u8]), Stop>
     ensures { Keeps cells_of keep (λ x. x.0.items) (λ x. lines_of x.1.now) result (lines_of bytes.now) (rows_at version count (lines_of bytes.now)) }
 {
     let mut cells = room(alloc, keep, count)?;
     let mut rest = bytes;
-    for place in 0..count {
+    for place in 0..count as u128 {
         match cut(rest, b'\n') {
             Some((text, more)) => {
                 if !push_row(&mut cells, keep, version, count, place, &read_line(text))? {

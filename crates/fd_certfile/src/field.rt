@@ -8,6 +8,7 @@ ghost use Rattle.fd_certfile.specs.Numbers.{numbers_of};
 
 use crate::cut::cut;
 use crate::number::number;
+use crate::short::short;
 
 /// The fields that are left, as text whose blanks part them, or none.
 pub(crate) type Fields<'a> = Option<&'a [u8]>;
@@ -22,18 +23,28 @@ pub(crate) fn parted(text: &[u8]) -> (&[u8], Fields<'_>)
     }
 }
 
-/// The number that the first field spells, and the other fields.
+// The number that the first field of a text spells, and the other fields: the field is found, and then read.
+#[inline(never)]
+fn found(text: &[u8]) -> Option<(i128, Fields<'_>)>
+    ensures { option_map (λ p. (p.0, texts_of (option_map (λ t. t.now) p.1))) result ≡ first_number (slice_split is_blank text.now) }
+{
+    let (field, rest) = parted(text);
+    match number(field) {
+        Some(number) => Some((number, rest)),
+        None => None,
+    }
+}
+
+/// The number that the first field spells, and the other fields. One of few digits is read with its end in one walk.
+#[inline(always)]
 pub(crate) fn first(fields: Fields<'_>) -> Option<(i128, Fields<'_>)>
     ensures { option_map (λ p. (p.0, texts_of (option_map (λ t. t.now) p.1))) result ≡ first_number (texts_of (option_map (λ t. t.now) fields.entry)) }
 {
     match fields {
-        Some(text) => {
-            let (field, rest) = parted(text);
-            match number(field) {
-                Some(number) => Some((number, rest)),
-                None => None,
-            }
-        }
+        Some(text) => match short(text) {
+            Some((number, rest)) => Some((i128::from(number), rest)),
+            None => found(text),
+        },
         None => None,
     }
 }

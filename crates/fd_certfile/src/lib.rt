@@ -20,6 +20,7 @@
 //! - `version`: the versions
 //! - `number`: the number that a field spells
 //! - `cut`: bytes cut at one of them
+//! - `short`: numbers of few digits
 //! - `field`: the fields of a line
 //! - `line`: a line
 //! - `row`: a row of an inverse, read into cells
@@ -46,6 +47,7 @@ mod number;
 mod reader;
 mod row;
 mod rule;
+mod short;
 mod texts;
 mod upgrades;
 mod version;

@@ -6,8 +6,8 @@ ghost use Rattle.std.specs.Str.Parse.{digits_value};
 ghost use Rattle.fd_certfile.specs.Numbers.{number_of};
 ghost use Rattle.fd_certfile.specs.Numerals.{IsSize, leads_with_zero, is_negative, below_zero};
 
-// Whether other digits follow a zero.
-fn leads_with_zero(digits: &[u8]) -> bool
+/// Whether other digits follow a zero.
+pub(crate) fn leads_with_zero(digits: &[u8]) -> bool
     ensures { result ≡ leads_with_zero digits.now }
 {
     match digits {
@@ -75,8 +75,8 @@ fn below_zero(size: Option<u128>) -> Option<i128>
     }
 }
 
-// Whether a minus stands first.
-fn is_negative(field: &[u8]) -> bool
+/// Whether a minus stands first.
+pub(crate) fn is_negative(field: &[u8]) -> bool
     ensures { result ≡ is_negative field.now }
 {
     match field {

@@ -20,10 +20,10 @@ pub(crate) fn is_place(place: u128, number: i128) -> bool
 }
 
 // Whether a number is that of a place from one on and below another.
-fn is_between(from: u128, below: u128, number: i128) -> bool
+fn is_between(from: u64, below: u64, number: i128) -> bool
     ensures { result ≡ is_between from below number }
 {
-    number >= 0 && number as u128 >= from && (number as u128) < below
+    number >= 0 && number as u128 >= from as u128 && (number as u128) < below as u128
 }
 
 // Adds a number where numbers are kept.
@@ -37,7 +37,7 @@ fn push_kept(cells: &mut Vec<i128>, keep: bool, number: i128) -> Result<(), Allo
 }
 
 // Adds so many zeros.
-fn push_zeros(cells: &mut Vec<i128>, count: u128) -> Result<(), AllocError>
+fn push_zeros(cells: &mut Vec<i128>, count: u64) -> Result<(), AllocError>
     ensures { OnOk result (cells.new.items ≡ cells.old.items ++ zeros count) }
 {
     for _zero in 0..count {
@@ -47,7 +47,7 @@ fn push_zeros(cells: &mut Vec<i128>, count: u128) -> Result<(), AllocError>
 }
 
 // Adds so many zeros where numbers are kept.
-fn push_gap(cells: &mut Vec<i128>, keep: bool, count: u128) -> Result<(), AllocError>
+fn push_gap(cells: &mut Vec<i128>, keep: bool, count: u64) -> Result<(), AllocError>
     ensures { OnOk result (cells.new.items ≡ cells.old.items ++ kept keep (zeros count)) }
 {
     if keep {
@@ -77,18 +77,18 @@ fn pair(fields: Fields<'_>) -> Option<(i128, i128, Fields<'_>)>
 fn push_pair(
     cells: &mut Vec<i128>,
     keep: bool,
-    count: u128,
-    next: u128,
+    count: u64,
+    next: u64,
     place: i128,
     entry: i128,
-) -> Result<Option<u128>, AllocError>
+) -> Result<Option<u64>, AllocError>
     ensures some { IfOk result (λ o. IfSome o (λ behind. IsPut keep count next place entry behind cells.old.items cells.new.items)) }
     ensures none { IfOk result (λ o. IfNone o (IsUnput count next place entry)) }
 {
     if entry == 0 || !is_between(next, count, place) {
         return Ok(None);
     }
-    let place = place as u128;
+    let place = place as u64;
     push_gap(cells, keep, place - next)?;
     push_kept(cells, keep, entry)?;
     Ok(Some(place + 1))
@@ -101,10 +101,10 @@ fn push_next<'a>(
     cells: &mut Vec<i128>,
     keep: bool,
     version: Version,
-    count: u128,
-    next: u128,
+    count: u64,
+    next: u64,
     fields: Fields<'a>,
-) -> Result<Option<(u128, Fields<'a>)>, AllocError>
+) -> Result<Option<(u64, Fields<'a>)>, AllocError>
     requires { HasNext version count next }
     ensures some { IfOk result (λ o. IfSome o (λ p.
         IsNext version keep count next cells.old.items cells.new.items
@@ -138,7 +138,7 @@ fn push_steps(
     cells: &mut Vec<i128>,
     keep: bool,
     version: Version,
-    count: u128,
+    count: u64,
     steps: u128,
     fields: Fields<'_>,
 ) -> Result<bool, AllocError>
@@ -169,7 +169,7 @@ fn push_steps(
 fn push_counted(
     cells: &mut Vec<i128>,
     keep: bool,
-    count: u128,
+    count: u64,
     fields: Fields<'_>,
 ) -> Result<bool, AllocError>
     ensures { IfOk result (λ ok.
@@ -193,7 +193,7 @@ fn push_fields(
     cells: &mut Vec<i128>,
     keep: bool,
     version: Version,
-    count: u128,
+    count: u64,
     fields: Fields<'_>,
 ) -> Result<bool, AllocError>
     ensures { IfOk result (λ ok.
@@ -201,7 +201,7 @@ fn push_fields(
         (row_in version count (numbers_of (texts_of (option_map (λ t. t.now) fields.entry))))) }
 {
     match version {
-        Version::Whole => push_steps(cells, keep, version, count, count, fields),
+        Version::Whole => push_steps(cells, keep, version, count, count as u128, fields),
         Version::Sparse => push_counted(cells, keep, count, fields),
     }
 }
@@ -212,7 +212,7 @@ pub(crate) fn push_row(
     cells: &mut Vec<i128>,
     keep: bool,
     version: Version,
-    count: u128,
+    count: u64,
     place: u128,
     line: &Line<'_>,
 ) -> Result<bool, AllocError>

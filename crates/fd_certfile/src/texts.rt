@@ -18,12 +18,23 @@ pub(crate) fn push_field(text: &mut Vec<u8>, field: &[u8]) -> Result<(), AllocEr
     text.extend_from_slice(field)
 }
 
-/// Adds a blank and a number.
-pub(crate) fn push_number(text: &mut Vec<u8>, number: i128) -> Result<(), AllocError>
+/// Adds a blank and how many things there are.
+pub(crate) fn push_count(text: &mut Vec<u8>, count: usize) -> Result<(), AllocError>
+    ensures { OnOk result (text.new.items ≡ text.old.items ++ field_text (pos count)) }
+{
+    let mut digits = Buffer::new();
+    push_field(text, digits.format(count).as_bytes())
+}
+
+// Adds a blank and a number, in 64 bits where it fits them.
+fn push_number(text: &mut Vec<u8>, number: i128) -> Result<(), AllocError>
     ensures { OnOk result (text.new.items ≡ text.old.items ++ field_text number) }
 {
     let mut digits = Buffer::new();
-    push_field(text, digits.format(number).as_bytes())
+    match i64::try_from(number) {
+        Ok(short) => push_field(text, digits.format(short).as_bytes()),
+        Err(_) => push_field(text, digits.format(number).as_bytes()),
+    }
 }
 
 // Adds numbers, each behind a blank.
@@ -48,7 +59,7 @@ fn push_entry(text: &mut Vec<u8>, place: usize, entry: i128) -> Result<(), Alloc
     ensures { OnOk result (text.new.items ≡ text.old.items ++ fields_text (pair_of (place, entry))) }
 {
     if entry != 0 {
-        push_number(text, place as i128)?;
+        push_count(text, place)?;
         push_number(text, entry)?;
     }
     Ok(())
@@ -64,19 +75,24 @@ fn push_entries(text: &mut Vec<u8>, row: &[i128]) -> Result<(), AllocError>
     Ok(())
 }
 
-/// The line of the row of an inverse at this place, in version 2.
+/// The line of the row of an inverse at this place, in version 2. It is made in a text whose room serves again, and copied.
 #[tactic(auto, using(crate::proofs::RowTexts::row_fields))]
-pub(crate) fn row_record(alloc: Global, place: i128, row: &[i128]) -> Result<Record, AllocError>
+pub(crate) fn row_record(
+    alloc: Global,
+    text: &mut Vec<u8>,
+    place: i128,
+    row: &[i128],
+) -> Result<Record, AllocError>
     ensures { IfOk result (λ r. r.bytes ≡ line_bytes (line.row (place ∷ fields_of Sparse row.now))) }
 {
-    let mut text = Vec::new(alloc);
+    text.clear();
     text.extend_from_slice(b"c")?;
-    push_number(&mut text, place)?;
-    push_number(&mut text, count(row) as i128)?;
-    push_entries(&mut text, row)?;
+    push_number(text, place)?;
+    push_count(text, count(row))?;
+    push_entries(text, row)?;
     text.push(b'\n')?;
     Ok(Record {
-        bytes: Bytes::new(text),
+        bytes: Bytes::new(Vec::from_slice(alloc, text.as_slice())?),
     })
 }
 

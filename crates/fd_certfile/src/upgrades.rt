@@ -21,7 +21,7 @@ use crate::ending::is_ended;
 use crate::fault::{CertFileFault, Stop};
 use crate::field::{Fields, parted};
 use crate::line::{Line, read_line};
-use crate::texts::{header_record, push_field, push_number, text_record};
+use crate::texts::{header_record, push_count, push_field, text_record};
 use crate::version::{Version, version_named};
 use fd_outside::{Bytes, Record};
 use fd_settle::Rule;
@@ -87,7 +87,7 @@ fn push_entry(text: &mut Vec<u8>, place: usize, entry: &[u8]) -> Result<usize, A
     if is_zero_text(entry) {
         return Ok(0);
     }
-    push_number(text, place as i128)?;
+    push_count(text, place)?;
     push_field(text, entry)?;
     Ok(1)
 }
@@ -124,7 +124,7 @@ fn upgraded_row(alloc: Global, fields: &[u8]) -> Result<Record, AllocError>
     let mut text = Vec::new(alloc);
     text.extend_from_slice(b"c")?;
     push_field(&mut text, place)?;
-    push_number(&mut text, count as i128)?;
+    push_count(&mut text, count)?;
     text.extend_from_slice(pairs.as_slice())?;
     text.push(b'\n')?;
     Ok(Record {

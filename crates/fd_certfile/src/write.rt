@@ -84,8 +84,10 @@ fn push_rows(alloc: Global, records: &mut Vec<Record>, inverse: &Dense) -> Resul
     ensures lines { OnOk result (pieces_of records.new.items ≡ pieces_of records.old.items ++ list_of (length inverse.now) (row_bytes inverse.now)) }
     ensures wide { OnOk result ((i : ℕ) → i < length inverse.now → length (row_of inverse.now i) ≡ length inverse.now) }
 {
+    let mut text = Vec::new(alloc);
     for place in 0..inverse.size() {
-        records.push(row_record(alloc, i128::from(place), inverse.row(place))?)?;
+        let row = inverse.row(place);
+        records.push(row_record(alloc, &mut text, i128::from(place), row)?)?;
     }
     Ok(())
 }

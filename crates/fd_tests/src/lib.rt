@@ -8,6 +8,8 @@
 #![tactic(auto)]
 
 #[cfg(test)]
+mod cert;
+#[cfg(test)]
 mod checks;
 #[cfg(test)]
 mod circuits;

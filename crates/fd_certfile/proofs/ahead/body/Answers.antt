@@ -18,6 +18,14 @@ returns-in-Err c =
     let f = subst (λ (n : ℕ). Fails c.in-Err.stop (lines_of c.args.bytes.now) (numbered_at part_at n 0 (lines_of c.args.bytes.now))) counted c.in-Err.ensures in
     rw c.moved.ensures (parts_fail c.args.version c.args.head.number c.args.head.hour c.args.head.round c.args.head.size (lines_of c.args.bytes.now) c.in-Err.stop f)
 
+pub overflow_cast-count : goal.overflow_cast-count
+overflow_cast-count c =
+    omega (
+      arith,
+      length-lines_of c.args.bytes.now,
+      numbered_left part_at c.count_of-count.result 0 (lines_of c.args.bytes.now) c.in-Ok.ensures.all (lines_of c.in-Ok.read.1.now) c.in-Ok.ensures.same,
+    )
+
 pub moved-requires-in-Err-rows : goal.moved-requires-in-Err-rows
 moved-requires-in-Err-rows c =
     let fits : FitsSigned w128 c.args.head.size = search rules in

@@ -17,11 +17,11 @@ loop-place-preserved c = record {
       c.loop-place.invariant.lines
       (pieces_pushed c.loop-place.records.items c.push.new.self.items c.in_ok-row_record.field-0 c.in_ok-push.ensures.items)
       (c.in_ok-row_record.ensures
-      ∙ ap (λ (z : ℤ). line_bytes (row (z ∷ fields_of Sparse c.row.result.now))) (to_z-of_z w128 c.from.result (search rules) ∙ c.from.ensures)
-      ∙ ap (λ r. line_bytes (row_line Sparse c.loop-place.place r)) c.row.ensures.numbers);
+      ∙ ap (λ (z : ℤ). line_bytes (row (z ∷ fields_of Sparse c.row-row.result.now))) (to_z-of_z w128 c.from.result (search rules) ∙ c.from.ensures)
+      ∙ ap (λ r. line_bytes (row_line Sparse c.loop-place.place r)) c.row-row.ensures.numbers);
   wide = λ i l. elim (cases_eq i c.loop-place.place) [
     | inl same ↦ subst (λ (k : ℕ). length (row_of c.args.inverse.now k) ≡ length c.args.inverse.now) (sym same)
-        (sym (ap length c.row.ensures.numbers) ∙ c.row.ensures.long)
+        (sym (ap length c.row-row.ensures.numbers) ∙ c.row-row.ensures.long)
     | inr other ↦ c.loop-place.invariant.wide i (omega (arith, l, other))
   ];
 }

@@ -97,7 +97,7 @@ returns-clause-left c =
     let e = c.daily_run-ended.ensures in
     on_well c.daily_run-ended.new.solver c.daily_run-ended.result _ c.judge_hour.result _ (told_is c)
     (λ well. record {
-      after_hour = record { positions = e.positions; day = e.day; built = e.built; work = e.work };
+      after_hour = record { positions = e.positions; loads = e.loads; probes = e.probes; day = e.day; built = e.built; work = e.work };
       left = e.left ∙ ap (λ t. hours_done t (hour_in day) (hours_left c.daily_run-ended.new.underway.day)) well;
       numbers = on_ok c.daily_run-ended.result _ well e.numbers;
     })
