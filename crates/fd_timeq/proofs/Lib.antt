@@ -1,0 +1,3 @@
+mod Timing
+mod Runs
+mod Lasting
