@@ -10,7 +10,7 @@ use Rattle.fd_picture.specs.Drafts.{DraftView, ReportView, empty_draft}
 use Rattle.fd_picture.specs.Numbers.{decimal_of, whole_of}
 use Rattle.fd_picture.specs.Fields.{at}
 use Rattle.fd_picture.specs.Lines.{is_at, unfit_in}
-use Rattle.fd_picture.specs.Reading.{Bad, act_to, bank_to, base_to, counted, counts, fault_to, finished, has_branch_form, has_magnitude_form, has_pending_form, is_kind, kept_panels, node_in, node_to, other_record, passed_over, read_from, record_to, report_of, row_to, solution_to, tap_to, unless_unfit, with_base, with_entry, with_node, with_open, with_round}
+use Rattle.fd_picture.specs.Reading.{Bad, act_to, bank_to, base_to, counted, counts, fault_to, finished, has_branch_form, has_ladder_form, has_magnitude_form, has_pending_form, is_kind, kept_panels, node_in, node_to, other_record, passed_over, read_from, record_to, report_of, row_to, solution_to, tap_to, unless_unfit, with_base, with_entry, with_node, with_open, with_round}
 use Rattle.fd_picture.specs.Strips.{drawn, rows_from, strip_by, strips_of}
 use Rattle.fd_picture.specs.declared.fault.Cause.{Cause}
 use Rattle.fd_picture.specs.declared.fault.Cause.TheVariants as cause
@@ -138,7 +138,7 @@ record_kept d fields h =
     (keeps_if (is_kind fields (codes "branch")) _ _ (counted_kept (counts fields 8) _ (passed_kept d (has_branch_form fields) h))
     (keeps_if (is_kind fields (codes "magnitude")) _ _ (counted_kept (counts fields 7) _ (passed_kept d (has_magnitude_form fields) h))
     (keeps_if (is_kind fields (codes "short")) _ _ (counted_kept (counts fields 8) _ (passed_kept d (has_branch_form fields) h))
-    (other_kept d fields h)))))
+    (keeps_if (is_kind fields (codes "ladder")) _ _ (passed_kept d (has_ladder_form fields) h) (other_kept d fields h))))))
 
 row_kept : (d : DraftView) (fields : List (List ℕ)) → Holds d → Keeps (row_to d fields)
 unfolding row_to

@@ -49,6 +49,19 @@ unfoldable pub has_magnitude_form : List (List ℕ) → Bool
 has_magnitude_form fields = is_name (at fields 1) && is_some (whole_of (at fields 2)) && is_signed 6 (at fields 3)
     && is_decimal 6 (at fields 4) && is_decimal 6 (at fields 5) && is_decimal 6 (at fields 6)
 
+-- how many fields a record of this name has; a fault has two or more, and a ladder sweep by what it came to
+abbrev pub counts : List (List ℕ) → ℕ → Bool
+counts fields n = length fields == n
+
+-- the form of a ladder sweep: how many sweeps and both differences; or an unknown, with a sweep where one is out of range
+unfoldable pub has_ladder_form : List (List ℕ) → Bool
+has_ladder_form fields =
+    if text_eq (at fields 1) (codes "agrees") then
+    counts fields 5 && is_some (whole_of (at fields 2)) && is_decimal 6 (at fields 3) && is_decimal 6 (at fields 4)
+    else if text_eq (at fields 1) (codes "out of range") then counts fields 4 && is_name (at fields 2) && is_some (whole_of (at fields 3))
+    else if text_eq (at fields 1) (codes "not converged") then counts fields 3 && is_some (whole_of (at fields 2))
+    else (text_eq (at fields 1) (codes "apart") || text_eq (at fields 1) (codes "wide")) && counts fields 3 && is_name (at fields 2)
+
 unfoldable pub has_act_form : List (List ℕ) → Bool
 has_act_form fields = is_decimal 3 (at fields 1) && is_name (at fields 2) && is_steps (at fields 3) && is_position (at fields 4)
 
@@ -145,10 +158,6 @@ fault_to d fields = if is_utf8 (spaced fields) then Ok (record d { fault = Some 
 
 -- ---- a record
 
--- how many fields a record of this name has; a fault has two or more
-abbrev pub counts : List (List ℕ) → ℕ → Bool
-counts fields n = length fields == n
-
 abbrev pub counted : Bool → Result DraftView Cause → Result DraftView Cause
 counted right answer = if right then answer else Err cause.FieldCount
 
@@ -173,6 +182,7 @@ record_to d fields =
     else if is_kind fields (codes "branch") then counted (counts fields 8) (passed_over d (has_branch_form fields))
     else if is_kind fields (codes "magnitude") then counted (counts fields 7) (passed_over d (has_magnitude_form fields))
     else if is_kind fields (codes "short") then counted (counts fields 8) (passed_over d (has_branch_form fields))
+    else if is_kind fields (codes "ladder") then passed_over d (has_ladder_form fields)
     else other_record d fields
 
 -- a record behind those of a draft

@@ -4,7 +4,7 @@ ghost use Rattle.csv.specs.Records.{fields_of};
 ghost use Rattle.fd_picture.specs.Drafts.{empty_draft};
 ghost use Rattle.fd_picture.specs.Fields.{at as field_at};
 ghost use Rattle.fd_picture.specs.Numbers.{before_dot, behind_dot};
-ghost use Rattle.fd_picture.specs.Reading.{CountGives, Makes, act_to, bank_to, base_to, bare_node, counted, fault_to, finished, has_act_form, has_branch_form, has_magnitude_form, has_node_form, has_pending_form, is_kind, kept_panels, node_in, node_to, other_record, passed_over, position_to, record_to, row_to, solution_to, tap_to, with_node};
+ghost use Rattle.fd_picture.specs.Reading.{CountGives, Makes, act_to, bank_to, base_to, bare_node, counted, fault_to, finished, has_act_form, has_branch_form, has_ladder_form, has_magnitude_form, has_node_form, has_pending_form, is_kind, kept_panels, node_in, node_to, other_record, passed_over, position_to, record_to, row_to, solution_to, tap_to, with_node};
 ghost use Rattle.fd_picture.specs.declared.fault.Cause.TheVariants as cause;
 ghost use Rattle.fd_picture.specs.declared.report.Entry.{Entry};
 ghost use Rattle.fd_picture.specs.declared.report.Kind.TheVariants as kind;
@@ -106,6 +106,22 @@ fn has_magnitude_form(row: &ByteRecord) -> bool
         && is_size(at(row, 4))
         && is_size(at(row, 5))
         && is_size(at(row, 6))
+}
+
+#[tactic(auto, unfolding(crate::specs::Reading::has_ladder_form))]
+fn has_ladder_form(row: &ByteRecord) -> bool
+    ensures { result ≡ has_ladder_form (fields_of row.now) }
+{
+    let word = at(row, 1);
+    if is_same(word, b"agrees") {
+        row.len() == 5 && whole(at(row, 2)).is_some() && is_size(at(row, 3)) && is_size(at(row, 4))
+    } else if is_same(word, b"out of range") {
+        row.len() == 4 && is_name(at(row, 2)) && whole(at(row, 3)).is_some()
+    } else if is_same(word, b"not converged") {
+        row.len() == 3 && whole(at(row, 2)).is_some()
+    } else {
+        (is_same(word, b"apart") || is_same(word, b"wide")) && row.len() == 3 && is_name(at(row, 2))
+    }
 }
 
 fn has_pending_form(row: &ByteRecord) -> bool
@@ -397,6 +413,8 @@ fn record_to(alloc: Global, draft: &mut Draft, row: &ByteRecord) -> Result<(), S
     } else if is_kind(row, b"short") {
         counted(row.len() == 8)?;
         passed_over(draft, has_branch_form(row))
+    } else if is_kind(row, b"ladder") {
+        passed_over(draft, has_ladder_form(row))
     } else {
         other_record(alloc, draft, row)
     }

@@ -24,9 +24,9 @@ ghost use Rattle.fd_shorting.specs.Shorting.{IsFaultHistory, IsShorted, IsShorti
 use crate::page::ShortReport;
 use fd_fault::{CircuitFault, Kind, ModelFault, NodeName, Place, ReadyFault, fault_circuit, ready};
 use fd_solving::{
-    BankStates, Cause, Circuit, Command, Fault, Library, Line, Mode, ModelError, Positions,
-    Session, Sink, Tally, Taps, Text, WANT_OF_MEMORY, apply, print_fault, run_script, said_law,
-    solve_hours,
+    BankStates, Cause, Circuit, Command, Compute, Fault, Library, Line, Mode, ModelError,
+    Positions, Session, Sink, Tally, Taps, Text, WANT_OF_MEMORY, apply, print_fault, run_script,
+    said_law, solve_hours,
 };
 use std::alloc::{AllocError, Global};
 use std::marker::Model;
@@ -186,6 +186,7 @@ fn solve_once<S: Sink>(alloc: Global, circuit: &Circuit, begun: bool, out: &mut 
         alloc,
         circuit,
         &mut at,
+        &mut Compute::new(alloc),
         &mut settled,
         &mut tally,
         &mut begun,

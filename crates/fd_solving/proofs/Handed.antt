@@ -53,6 +53,7 @@ command_status (fault.Undecided c l u k x) h = (λ e. omega (arith, e), λ e. om
 command_status (fault.ControlLimit n) h = (λ e. omega (arith, e), λ e. omega (arith, e))
 command_status (fault.Certificate line broken) h = (λ e. omega (arith, e), λ e. omega (arith, e))
 command_status (fault.NoSuchNode node) h = (λ e. omega (arith, e), λ e. omega (arith, e))
+command_status (fault.NotRadial element) h = (λ e. omega (arith, e), λ e. omega (arith, e))
 
 cut_code : (calls : List Call) (code : ℕ) (m : Made) → IsFrontOf calls code m → CutsShort code
 cut_code calls code m front = elim front [ inl a ↦ inl a.status_is | inr a ↦ inr a.status_is ]

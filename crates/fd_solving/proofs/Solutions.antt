@@ -76,7 +76,7 @@ box_by_kind Branch draw centre place = refl
 box_by_kind Magnitude draw centre place = refl
 
 module _ (c : CircuitView) (powers : List LoadPower) (at : Positions) (centre : List ℤ) where
-  same_box : (place : ℕ) → half_width (network_at c powers at) centre place ≡ box_at (layout_of c.elements) centre place
+  pub same_box : (place : ℕ) → half_width (network_at c powers at) centre place ≡ box_at (layout_of c.elements) centre place
   unfolding network_at
   same_box place = box_by_kind (kind_at (layout_of c.elements) place) (network_at c powers at).stamp.draw centre place
 

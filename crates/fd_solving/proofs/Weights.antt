@@ -244,7 +244,7 @@ verb_takes place verb.Bases circuit new h =
 
 -- ---- so does a command after which the run goes on
 
-abbrev Reaches : Applied → CircuitView → Type 0
+abbrev pub Reaches : Applied → CircuitView → Type 0
 Reaches left now = (left ≡ nothing_left now) ⊎ ((left ≡ solve_left now) ⊎ (left ≡ bases_left now))
 
 solve_reaches : (circuit now : CircuitView) → Reaches (solve_left circuit) now → circuit ≡ now
@@ -316,9 +316,14 @@ step_reaches at n (solve_left circuit) step now is leaves = inr (inl (ap solve_l
 step_reaches at n (bases_left circuit) step now is leaves =
     inr (inr (ap bases_left (left_by now step (goes (base_events circuit) (standing circuit at n)) is leaves)))
 
+pub reached_takes : (command : Command) (circuit now : CircuitView) → Reaches (tried command circuit) now
+    → weight now ≤ weight circuit + cost command.verb
+reached_takes command circuit now reached =
+    (verb_takes command.place command.verb circuit now
+    (left_reaches command.place command.verb (applied command circuit) now reached)).room
+
 pub command_takes : (command : Command) (s now : StandingView) (events : List Event)
     → IsStep command s (goes events now) → weight now.circuit ≤ weight s.circuit + cost command.verb
 command_takes command s now events is =
-    (verb_takes command.place command.verb s.circuit now.circuit
-    (left_reaches command.place command.verb (applied command s.circuit) now.circuit
-    (step_reaches s.at s.settled (tried command s.circuit) (goes events now) now.circuit is refl))).room
+    reached_takes command s.circuit now.circuit
+    (step_reaches s.at s.settled (tried command s.circuit) (goes events now) now.circuit is refl)

@@ -4,7 +4,9 @@ ghost use Rattle.fd_daily.specs.dss_ready.Ready.{HasPassed};
 ghost use Rattle.fd_daily.specs.Day.{IsDay, MayBegin, hour_in, hours_done, hours_left};
 ghost use Rattle.fd_daily.specs.Underway.{IsUnderway, machine_in};
 ghost use Rattle.fd_daily.specs.fd_network.Built.{IsBuiltOf};
+ghost use Rattle.fd_daily.specs.fd_sample.Circuits.{probes_of};
 ghost use Rattle.fd_daily.specs.fd_sample.Probes.{positions_in};
+ghost use Rattle.fd_daily.specs.fd_settings.Daily.{AreDaily};
 ghost use Rattle.fd_daily.specs.fd_settle.Controls.{AreAtWork};
 ghost use Rattle.fd_daily.specs.fd_settle.Start.{ArePositions};
 ghost use Rattle.fd_solving.specs.Answered.{IsMadeHour, kept_in};
@@ -21,6 +23,7 @@ pub(crate) fn solve_hour(
     circuit: &Circuit,
     underway: &mut Underway,
     at: &mut Positions,
+    solver: &mut Compute,
 ) -> Result<Option<Failure>, AllocError>
     requires ready { HasPassed circuit.now }
     requires underway { IsUnderway circuit.now at.old underway.old }
@@ -28,6 +31,8 @@ pub(crate) fn solve_hour(
         (kept_in (machine_in at.old underway.old) n) underway.new.rounds.items f (kept_in (machine_in at.new underway.new) (n + 1))) }
     ensures left { IfOk result (λ f. hours_left underway.old.day ≡ hours_done (is_none f) (hour_in underway.old.day) (hours_left underway.new.day)) }
     ensures positions { ArePositions circuit.now underway.new.powers.loads (positions_in at.new) }
+    ensures loads { AreDaily circuit.now.elements underway.new.loads.each.items }
+    ensures probes { underway.new.probes.items ≡ probes_of circuit.now.elements }
     ensures day { IsDay underway.new.day }
     ensures built { IsBuiltOf underway.new.net circuit.now }
     ensures work { AreAtWork circuit.now at.new underway.new.clock underway.new.controls }
@@ -36,8 +41,7 @@ pub(crate) fn solve_hour(
     // read for what the elements are, and how many acts are allowed
     let _elements = circuit.elements();
     let _options = circuit.options();
-    let mut solver = Compute::new();
-    let ended = daily_run(alloc, circuit, underway, at, &mut solver);
+    let ended = daily_run(alloc, circuit, underway, at, solver);
     match ended {
         Ok(()) => Ok(None),
         Err(fault) => {

@@ -21,16 +21,18 @@ use crate::hour::solve_hour;
 use crate::print::{WANT_OF_MEMORY, print_failed, print_fault, print_pending, print_settled};
 use crate::tally::Tally;
 use dss_commands::{Blame, Circuit};
-use fd_daily::{BuildFault, Positions, Underway};
+use fd_daily::{BuildFault, Compute, Positions, Underway};
 use fd_pages::{Cause, Page, Sink, SolvedHour};
 use std::alloc::Global;
 
 /// Solves the hours of a Solve of a circuit that passed the tests, where its last Solve left these positions, and prints
 /// the records of each before the next is solved. The rounds of each are added to the tally. An answer ends the run.
+/// What the solver keeps from Solve to Solve is seen by no answer.
 pub fn solve_hours<P: Page, S: Sink>(
     alloc: Global,
     circuit: &Circuit,
     at: &mut Positions,
+    solver: &mut Compute,
     settled: &mut u32,
     tally: &mut Tally,
     begun: &mut bool,
@@ -66,6 +68,7 @@ pub fn solve_hours<P: Page, S: Sink>(
                 circuit,
                 &mut underway,
                 at,
+                solver,
                 settled,
                 tally,
                 begun,
@@ -95,6 +98,7 @@ fn do_hour<P: Page, S: Sink>(
     circuit: &Circuit,
     underway: &mut Underway,
     at: &mut Positions,
+    solver: &mut Compute,
     settled: &mut u32,
     tally: &mut Tally,
     begun: &mut bool,
@@ -121,7 +125,7 @@ fn do_hour<P: Page, S: Sink>(
 {
     let hour = underway.hour();
     let number = *settled + 1;
-    let Ok(failure) = solve_hour(alloc, circuit, underway, at) else {
+    let Ok(failure) = solve_hour(alloc, circuit, underway, at, solver) else {
         return Some(WANT_OF_MEMORY);
     };
     let made = SolvedHour {
@@ -130,6 +134,7 @@ fn do_hour<P: Page, S: Sink>(
         number,
         hour,
         rounds: &underway.rounds,
+        probes: &underway.probes,
     };
     match failure {
         Some(failure) => Some(print_failed::<P, S>(alloc, &made, failure, at, *begun, out)),
@@ -150,6 +155,7 @@ fn run_hours<P: Page, S: Sink>(
     circuit: &Circuit,
     underway: &mut Underway,
     at: &mut Positions,
+    solver: &mut Compute,
     settled: &mut u32,
     tally: &mut Tally,
     begun: &mut bool,
@@ -177,7 +183,9 @@ fn run_hours<P: Page, S: Sink>(
 {
     P::law();
     loop {
-        let ended = do_hour::<P, S>(alloc, circuit, underway, at, settled, tally, begun, out);
+        let ended = do_hour::<P, S>(
+            alloc, circuit, underway, at, solver, settled, tally, begun, out,
+        );
         if ended.is_some() {
             return ended;
         }

@@ -42,7 +42,7 @@ pub use answer::Answer;
 pub use hours::solve_hours;
 pub use laws::{solution_law, solved_law};
 pub use line::Line;
-pub use print::{WANT_OF_MEMORY, print_end, print_fault};
+pub use print::{WANT_OF_MEMORY, print_bases, print_end, print_fault, print_last};
 pub use script::run_script;
 pub use solving::{solve, take_command};
 pub use standing::Standing;
@@ -50,11 +50,15 @@ pub use step::answer_to;
 pub use tally::Tally;
 
 // Handed on from the crates below.
-pub use dss_commands::{Circuit, Command, ModelError, Text, apply, limits_law};
-pub use fd_daily::{BankStates, Positions, Rule, Taps};
+pub use dss_commands::{Circuit, Class, Command, ElementName, ModelError, Text, apply, limits_law};
+pub use fd_daily::{
+    BankStates, BuildFault, Compute, Positions, Rule, Taps, hours_law, modest_law, network_law,
+    next_law,
+};
 pub use fd_pages::{
-    Cause, CertFileFault, Certificate, Certified, Entry, Fault, Found, Layout, LibFault, Library,
-    Mode, Page, Record, Report, Round, Session, Sink, Solution, SolvedHour, Summary,
-    accepted_record, read_law, said_law, said_room_law, short_records, size_text, status_law,
-    upgrade,
+    Cause, CertFileFault, Certificate, Certified, ControlMode, Entry, Fault, Found, Ladder, Layout,
+    LibFault, Library, Mode, Network, NetworkRows, Options, Page, PlaceKind, Record, Report, Round,
+    Session, Sink, Solution, SolvedHour, Summary, Widened, accepted_record, agreement_law,
+    first_loose, ladder_record, name_at, next_positions, powers_at, read_law, row_mismatches,
+    said_law, said_room_law, short_records, size_text, status_law, upgrade, widen, widening_law,
 };

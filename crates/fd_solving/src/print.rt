@@ -4,6 +4,7 @@ ghost use Rattle.fd_pages.specs.fd_outside.Causes.{Rose};
 ghost use Rattle.fd_pages.specs.fd_outside.Emitted.{pieces_of};
 ghost use Rattle.fd_pages.specs.dss_layout.Layout.{layout_of, size_of};
 ghost use Rattle.fd_daily.specs.fd_network.Built.{IsBuiltOf};
+ghost use Rattle.fd_daily.specs.fd_sample.Circuits.{probes_of};
 ghost use Rattle.fd_daily.specs.fd_sample.Probes.{positions_in};
 ghost use Rattle.fd_pages.specs.fd_outcome.Behind.{behind, closes, has_text, last_calls, opened_unless};
 ghost use Rattle.fd_pages.specs.fd_outcome.Calls.{body, fault_text, opened, writes};
@@ -116,7 +117,7 @@ fn print_texts<P: Page, S: Sink>(
 }
 
 /// Prints the voltage bases of a circuit's buses. An answer ends the run. `begun` tells whether a text was written before.
-pub(crate) fn print_bases<P: Page, S: Sink>(
+pub fn print_bases<P: Page, S: Sink>(
     alloc: Global,
     circuit: &Circuit,
     begun: &mut bool,
@@ -168,6 +169,7 @@ pub(crate) fn print_settled<P: Page, S: Sink>(
 ) -> Option<u8>
     requires network { IsBuiltOf made.now.net.now made.now.circuit.now }
     requires printable { IsPrintable made.now.circuit.now made.now.hour made.now.rounds.now (positions_in at.now) }
+    requires probes { made.now.probes.now ≡ probes_of made.now.circuit.now.elements }
     ensures goes { (l : Kept) → made.now.number ≡ l.settled + 1
         → IfNone result (Wrote S.taken S.calls out.old out.new (whole (settle_calls P.style begun.old
         (settle_made made.now.circuit.now made.now.hour l made.now.rounds.now settled (positions_in at.now))))) }
@@ -267,7 +269,7 @@ pub fn print_end<S: Sink>(alloc: Global, texts: &[Record], out: &mut S) -> u8
 
 /// Prints what stands last where there is no fault, and answers the exit status. `begun` tells whether a text was
 /// written before.
-pub(crate) fn print_last<P: Page, S: Sink>(alloc: Global, begun: bool, out: &mut S) -> u8
+pub fn print_last<P: Page, S: Sink>(alloc: Global, begun: bool, out: &mut S) -> u8
     ensures prints { Printed S.taken S.calls out.old out.new (closes P.style.closing)
         (record { calls = last_calls P.style begun [] None; end = None }) result }
     ensures later { S.faults out.old ≤ S.faults out.new }

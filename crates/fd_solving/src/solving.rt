@@ -58,6 +58,7 @@ pub fn take_command<P: Page, S: Sink>(
             alloc,
             &standing.circuit,
             &mut standing.at,
+            &mut standing.solver,
             &mut standing.settled,
             tally,
             begun,

@@ -3,7 +3,7 @@ ghost use Rattle.std.specs.Prelude.{◌≡◌};
 ghost use Rattle.fd_solving.specs.Scripts.{first_standing};
 
 use dss_commands::Circuit;
-use fd_daily::{BankStates, Positions, Taps};
+use fd_daily::{BankStates, Compute, Positions, Taps};
 use fd_pages::Page;
 use std::alloc::Global;
 use std::marker::{Model, PhantomData};
@@ -15,6 +15,8 @@ pub struct Standing<P: Page> {
     pub(crate) circuit: Circuit,
     pub(crate) at: Positions,
     pub(crate) settled: u32,
+    // for the whole run, so that what it keeps serves each Solve
+    pub(crate) solver: Compute,
     page: PhantomData<P>,
 }
 
@@ -43,6 +45,7 @@ impl<P: Page> Standing<P> {
                 closed: BankStates::new(Vec::new(alloc)),
             },
             settled: 0,
+            solver: Compute::new(alloc),
             page: PhantomData,
         }
     }

@@ -1,15 +1,9 @@
 -- What is made of what was found under the name.
-use Rattle.std.specs.Prelude.{ℕ, true, List, Option, Some, None}
-use Rattle.fd_solving.specs.fd_outside.declared.library.Found.{Found}
-use Rattle.fd_solving.specs.fd_outside.declared.library.Found.TheVariants as found
+use Rattle.std.specs.Prelude.{ℕ, true, List, Option}
 use Rattle.fd_solving.specs.fd_outcome.Calls.{doing, report}
 use Rattle.fd_solving.specs.fd_outcome.Events.{History}
 use Rattle.fd_solving.specs.fd_outcome.Parts.{Printed}
 use Rattle.fd_upgrade.specs.Upgrading.{IsUpgradeOf}
-
-abbrev pub bytes_found : Found → Option (List ℕ)
-bytes_found (found.Bytes held) = Some held.items
-bytes_found found.Absent = None
 
 -- all of the text that comes of it, or a front, is handed to the sink
 pub record IsAnswered {S : Type 0} (taken : S → List ℕ) (calls : S → ℕ) (old new : S)

@@ -9,7 +9,8 @@ ghost use Rattle.fd_solving.specs.fd_outcome.Calls.{report};
 ghost use Rattle.fd_solving.specs.fd_outcome.Parts.{Printed, fault_doing};
 ghost use Rattle.fd_solving.specs.fd_outcome.Runs.{Runs};
 ghost use Rattle.fd_solving.specs.fd_outcome.Untold.{IsUntold};
-ghost use Rattle.fd_upgrade.specs.Answering.{IsAnswered, bytes_found};
+ghost use Rattle.fd_solving.specs.dss_script.Sessions.{found_bytes};
+ghost use Rattle.fd_upgrade.specs.Answering.{IsAnswered};
 ghost use Rattle.fd_upgrade.specs.Upgrading.{IsUpgradeHistory};
 
 use fd_solving::{
@@ -53,7 +54,7 @@ fn print_upgrade<S: Sink>(alloc: Global, bytes: &[u8], out: &mut S) -> u8
 
 // Prints what comes of what was found, and answers the exit status.
 fn answer_found<S: Sink>(alloc: Global, found: Found, out: &mut S) -> u8
-    ensures answers { IsAnswered S.taken S.calls out.old out.new (bytes_found found) result }
+    ensures answers { IsAnswered S.taken S.calls out.old out.new (found_bytes found) result }
     ensures later { S.faults out.old ≤ S.faults out.new }
     ensures write { result ≡ 5 → Rose (S.faults out.old) (S.faults out.new) }
 {

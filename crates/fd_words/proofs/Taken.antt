@@ -26,7 +26,8 @@ use Rattle.fd_words.specs.Words.{Form, Row, Takes, Value, form_of, form_with, na
 use Rattle.fd_words.proofs.Digits.{number_named}
 
 -- the getter of the words reads the rows
-pub words_by : (f : Matches) (id : Text) (words : Option (List Text)) → words ≡ option_map raw_values (matched_of f id) → words ≡ all_of id (rows_of f)
+pub words_by : (f : Matches) (id : Text) (words : Option (List Text)) → words ≡ option_map raw_values (matched_of f id)
+    → words ≡ all_of id (rows_of f)
 words_by f id words e = e ∙ raw_values-rows f id
 
 and_split : (a b : Bool) → a && b ≡ true → (a ≡ true) × (b ≡ true)
@@ -47,12 +48,14 @@ unlike first word differ = go (bytes_eq first word) refl
 
 -- ---- the words of a row
 
-sections_named : (word : Text) (value : Option ℕ) (m : ℕ) → value_of 2 word ≡ value → option_and_then within_sections value ≡ Some m
+sections_named : (word : Text) (value : Option ℕ) (m : ℕ) → value_of 2 word ≡ value →
+    option_and_then within_sections value ≡ Some m
     → names_file word ≡ true
 sections_named word None m e some = absurd (cc some)
 sections_named word (Some k) m e some = number_named 2 word k e
 
-file_named : (word : Text) (b : Bool) (v : Text) → names_file word ≡ b → (cond b (Some word) None) ≡ Some v → names_file word ≡ true
+file_named : (word : Text) (b : Bool) (v : Text) → names_file word ≡ b → (cond b (Some word) None) ≡ Some v →
+    names_file word ≡ true
 file_named word true v e some = e
 file_named word false v e some = absurd (cc some)
 
@@ -81,10 +84,13 @@ all_named : (kinds : List Kind) (form : Takes kinds) (words : List Text) → is_
 all_named [] form [] some = (refl, refl)
 all_named [] form (word ∷ words) some = absurd (cc some)
 all_named (kind ∷ kinds) form [] some = absurd (cc some)
-all_named (kind ∷ kinds) form (word ∷ words) some = go (value_as kind word) refl some (λ v. all_named kinds (form v) words)
+all_named (kind ∷ kinds) form (word ∷ words) some =
+    go (value_as kind word) refl some (λ v. all_named kinds (form v) words)
   where
-    go : (o : Option (Value kind)) → value_as kind word ≡ o → is_some (option_and_then (λ value. form_with kinds (form value) words) o) ≡ true
-        → ((v : Value kind) → is_some (form_with kinds (form v) words) ≡ true → (length kinds ≡ length words) × (list_all names_file words ≡ true))
+    go : (o : Option (Value kind)) → value_as kind word ≡ o →
+        is_some (option_and_then (λ value. form_with kinds (form value) words) o) ≡ true
+        → ((v : Value kind) → is_some (form_with kinds (form v) words) ≡ true → (length kinds ≡ length words)
+        × (list_all names_file words ≡ true))
         → (length (kind ∷ kinds) ≡ length (word ∷ words)) × (list_all names_file (word ∷ words) ≡ true)
     go None e h more = absurd (cc h)
     go (Some v) e h more =
@@ -108,7 +114,8 @@ leaf row = line row.word (length row.kinds)
 
 -- the line takes the words, and its matches give them back
 abbrev IsTakenBy : Shape → List Text → Type 0
-IsTakenBy shape words = (level_passes shape [] nothing_held words false ≡ true) × (all_of (codes "words") (rows_after shape.rules [] words) ≡ Some words)
+IsTakenBy shape words = (level_passes shape [] nothing_held words false ≡ true)
+    × (all_of (codes "words") (rows_after shape.rules [] words) ≡ Some words)
 
 dashless : (b : ℕ) (bs : List ℕ) → nat_eq b 45 ≡ false → (long_of (b ∷ bs) ≡ None) × (short_of (b ∷ bs) ≡ None)
 dashless b bs h = (rw h refl, rw h refl)
@@ -128,7 +135,8 @@ one_taken name (b ∷ bs) n =
     let d = dashless b bs h in
     (rw (d.0, d.1, h) (refl {a = true}), rw (d.0, d.1, h) (refl {a = Some ((b ∷ bs) ∷ [])}))
 
-two_taken : (name first second : Text) → names_file first ≡ true → names_file second ≡ true → IsTakenBy (line name 2) (first ∷ second ∷ [])
+two_taken : (name first second : Text) → names_file first ≡ true → names_file second ≡ true →
+    IsTakenBy (line name 2) (first ∷ second ∷ [])
 unfolding clap_on_literals
 two_taken name [] second n m = absurd (cc n)
 two_taken name (b ∷ bs) [] n m = absurd (cc m)
@@ -136,10 +144,13 @@ two_taken name (b ∷ bs) (c ∷ cs) n m =
     let h = other b n in
     let k = other c m in
     let d = dashless b bs h in
-    let e = dashless c cs k in
-    (rw (d.0, d.1, h, e.0, e.1, k) (refl {a = true}), rw (d.0, d.1, h, e.0, e.1, k) (refl {a = Some ((b ∷ bs) ∷ (c ∷ cs) ∷ [])}))
+    let e = dashless c cs k in (
+      rw (d.0, d.1, h, e.0, e.1, k) (refl {a = true}),
+      rw (d.0, d.1, h, e.0, e.1, k) (refl {a = Some ((b ∷ bs) ∷ (c ∷ cs) ∷ [])}),
+    )
 
-three_taken : (name first second third : Text) → names_file first ≡ true → names_file second ≡ true → names_file third ≡ true
+three_taken : (name first second third : Text) → names_file first ≡ true → names_file second ≡ true → names_file third
+    ≡ true
     → IsTakenBy (line name 3) (first ∷ second ∷ third ∷ [])
 unfolding clap_on_literals
 three_taken name [] second third n m p = absurd (cc n)
@@ -163,7 +174,8 @@ true_le m n h = grind (arith, nat_tests)
 abbrev is_few : ℕ → Bool
 is_few count = nat_le 1 count && nat_le count 3
 
-few_taken : (name : Text) (words : List Text) → is_few (length words) ≡ true → list_all names_file words ≡ true → IsTakenBy (line name (length words)) words
+few_taken : (name : Text) (words : List Text) → is_few (length words) ≡ true → list_all names_file words ≡ true →
+    IsTakenBy (line name (length words)) words
 few_taken name [] few all = absurd (cc few)
 few_taken name (word ∷ []) few all = one_taken name word (and_split (names_file word) true all).0
 few_taken name (first ∷ second ∷ []) few all =
@@ -181,7 +193,14 @@ few_taken name (first ∷ second ∷ third ∷ fourth ∷ words) few all =
 -- ---- the lines
 
 abbrev top : Shape
-top = record (new_shape (codes "feeder")) { no_binary_name = true; disable_help_flag = true; disable_help_subcommand = true; is_leaf = false; is_built = true }
+top = record (new_shape (codes "feeder")) {
+  no_binary_name = true;
+  disable_help_flag = true;
+  disable_help_subcommand =
+      true;
+  is_leaf = false;
+  is_built = true;
+}
 
 abbrev app : App
 app = record { top = top; subs = map leaf rows }
@@ -190,17 +209,23 @@ built_is : built lines_app ≡ app
 built_is = refl
 
 -- a row that is found has its word, and what is said of all
-found_row : (test : Row → Bool) (rs : List Row) (word : Text) (row : Row) → find (λ r. bytes_eq r.word word) rs ≡ Some row → list_all test rs ≡ true
-    → (bytes_eq row.word word ≡ true) × (test row ≡ true) × (find (λ s. answers_to word (label_of s)) (map leaf rs) ≡ Some (leaf row))
+found_row : (test : Row → Bool) (rs : List Row) (word : Text) (row : Row) → find (λ r. bytes_eq r.word word) rs
+    ≡ Some row → list_all test rs ≡ true
+    → (bytes_eq row.word word ≡ true) × (test row ≡ true) × (find (λ s. answers_to word (label_of s)) (map leaf rs)
+    ≡ Some (leaf row))
 found_row test [] word row h all = absurd (cc h)
-found_row test (r ∷ rs) word row h all = go (bytes_eq r.word word) refl h (λ found. found_row test rs word row found (and_split (test r) _ all).1)
+found_row test (r ∷ rs) word row h all =
+    go (bytes_eq r.word word) refl h (λ found. found_row test rs word row found (and_split (test r) _ all).1)
   where
     go : (t : Bool) → bytes_eq r.word word ≡ t → cond t (Some r) (find (λ r. bytes_eq r.word word) rs) ≡ Some row
-        → (find (λ r. bytes_eq r.word word) rs ≡ Some row → (bytes_eq row.word word ≡ true) × (test row ≡ true) × (find (λ s. answers_to word (label_of s)) (map leaf rs) ≡ Some (leaf row)))
-        → (bytes_eq row.word word ≡ true) × (test row ≡ true) × (find (λ s. answers_to word (label_of s)) (map leaf (r ∷ rs)) ≡ Some (leaf row))
+        → (find (λ r. bytes_eq r.word word) rs ≡ Some row → (bytes_eq row.word word ≡ true) × (test row ≡ true)
+        × (find (λ s. answers_to word (label_of s)) (map leaf rs) ≡ Some (leaf row)))
+        → (bytes_eq row.word word ≡ true) × (test row ≡ true)
+        × (find (λ s. answers_to word (label_of s)) (map leaf (r ∷ rs)) ≡ Some (leaf row))
     go true e found more =
         let is : r ≡ row = ap (λ o. unwrap_or o r) found in
-        subst (λ (x : Row). (bytes_eq x.word word ≡ true) × (test x ≡ true) × (find (λ s. answers_to word (label_of s)) (map leaf (r ∷ rs)) ≡ Some (leaf x))) is
+        subst (λ (x : Row). (bytes_eq x.word word ≡ true) × (test x ≡ true)
+        × (find (λ s. answers_to word (label_of s)) (map leaf (r ∷ rs)) ≡ Some (leaf x))) is
         (e, (and_split (test r) _ all).0, rw e refl)
     go false e found more =
         let rest = more found in
@@ -210,16 +235,20 @@ found_row test (r ∷ rs) word row h all = go (bytes_eq r.word word) refl h (λ 
 abbrev at : Text → List Text → Walk
 at name words = record (walk_from nothing_held) { stopped = Some (name, words) }
 
-later : (c : List Rule) (names : Names) (name : Text) (seen words : List Text) → fold (walked c names) (at name seen) words ≡ at name (seen ++ words)
+later : (c : List Rule) (names : Names) (name : Text) (seen words : List Text) →
+    fold (walked c names) (at name seen) words ≡ at name (seen ++ words)
 unfolding walked
 later c names name seen [] = ap (at name) (sym (append-nil seen))
-later c names name seen (word ∷ words) = later c names name (seen ++ word ∷ []) words ∙ ap (at name) (append_assoc seen (word ∷ []) words)
+later c names name seen (word ∷ words) = later c names name (seen ++ word ∷ []) words
+    ∙ ap (at name) (append_assoc seen (word ∷ []) words)
 
-first : (c : List Rule) (names : Names) (word name : Text) → subcommand_met names idle word ≡ Some name → walked c names (walk_from nothing_held) word ≡ at name []
+first : (c : List Rule) (names : Names) (word name : Text) → subcommand_met names idle word ≡ Some name →
+    walked c names (walk_from nothing_held) word ≡ at name []
 unfolding walked
 first c names word name met = rw met refl
 
-later_passes : (s : Shape) (names : Names) (name : Text) (seen words : List Text) → walk_passes s names (at name seen) words ≡ true
+later_passes : (s : Shape) (names : Names) (name : Text) (seen words : List Text) →
+    walk_passes s names (at name seen) words ≡ true
 unfolding walk_passes walked
 later_passes s names name seen [] = refl
 later_passes s names name seen (word ∷ words) = later_passes s names name (seen ++ word ∷ []) words
@@ -227,23 +256,29 @@ later_passes s names name seen (word ∷ words) = later_passes s names name (see
 passes : (names : Names) (word name : Text) (words : List Text) → subcommand_met names idle word ≡ Some name
     → walk_passes top names (walk_from nothing_held) (word ∷ words) ≡ true
 unfolding walk_passes walked
-passes names word name words met = rw (met, or_true (not (bytes_eq name (codes "help")))) (later_passes top names name [] words)
+passes names word name words met = rw (met, or_true (not (bytes_eq name (codes "help"))))
+    (later_passes top names name [] words)
 
 -- the command takes a row's word and words that its line takes, and its matches give them back
-row_taken : (row : Row) (words : List Text) → find (λ s. answers_to row.word (label_of s)) (map leaf rows) ≡ Some (leaf row) → IsTakenBy (leaf row) words
+row_taken : (row : Row) (words : List Text) → find (λ s. answers_to row.word (label_of s)) (map leaf rows)
+    ≡ Some (leaf row) → IsTakenBy (leaf row) words
     → (takes lines_app (row.word ∷ words) ≡ true)
     × (subcommand_of lines_app (row.word ∷ words) ≡ Some (row.word, rows_after (leaf row).rules [] words))
 row_taken row words found taken =
     let names = map label_of (map leaf rows) in
     let met : subcommand_met names idle row.word ≡ Some row.word =
-    ap (option_map (λ (s : Text × List Text). s.0)) (sym (find-map (answers_to row.word) label_of (map leaf rows)) ∙ ap (option_map label_of) found) in
+    ap (option_map (λ (s : Text × List Text). s.0)) (sym (find-map (answers_to row.word) label_of (map leaf rows))
+    ∙ ap (option_map label_of) found) in
     let walk_is : walk [] names nothing_held (row.word ∷ words) ≡ at row.word words =
-    ap (λ (w : Walk). fold (walked [] names) w words) (first [] names row.word row.word met) ∙ later [] names row.word [] words in
+    ap (λ (w : Walk). fold (walked [] names) w words) (first [] names row.word row.word met)
+    ∙ later [] names row.word [] words in
     let enters : entered_passes app (at row.word words).stopped ≡ true =
     ap (λ o. option_map_or (λ (s : Shape). level_passes s [] nothing_held words false) o true) found ∙ taken.0 in
     let level : (b : Bool) → level_passes top names nothing_held (row.word ∷ words) b ≡ true =
-    λ b. ap₂ (λ (w : Walk) (p : Bool). p && (settle_passes [] false w.held && (list_all default_passes [] && is_valid top (finished [] w.held) b))) walk_is (passes names row.word row.word words met) in (
-      ap₂ (λ (a b : Bool). a && b) (ap (λ (w : Walk). entered_passes app w.stopped) walk_is ∙ enters) (level (is_some (entered app (walk [] names nothing_held (row.word ∷ words)).stopped))),
+    λ b. ap₂ (λ (w : Walk) (p : Bool). p && (settle_passes [] false w.held && (list_all default_passes []
+    && is_valid top (finished [] w.held) b))) walk_is (passes names row.word row.word words met) in (
+      ap₂ (λ (a b : Bool). a && b) (ap (λ (w : Walk). entered_passes app w.stopped) walk_is ∙ enters)
+          (level (is_some (entered app (walk [] names nothing_held (row.word ∷ words)).stopped))),
       ap (λ (w : Walk). entered app w.stopped) walk_is ∙ ap (option_map (λ s. rows_at s words)) found,
     )
 
@@ -256,7 +291,8 @@ read = option_and_then (λ line. form_of_rows line.0 line.1)
 abbrev IsRead : List Text → Type 0
 IsRead words = (takes lines_app words ≡ true) × (read (subcommand_of lines_app words) ≡ form_of words)
 
-row_read : (row : Row) (words : List Text) → is_some (form_with row.kinds row.form words) ≡ true → is_few (length row.kinds) ≡ true
+row_read : (row : Row) (words : List Text) → is_some (form_with row.kinds row.form words) ≡ true →
+    is_few (length row.kinds) ≡ true
     → find (λ s. answers_to row.word (label_of s)) (map leaf rows) ≡ Some (leaf row) → IsRead (row.word ∷ words)
 row_read row words some few found =
     let all = all_named row.kinds row.form words some in
@@ -269,16 +305,19 @@ form_read : (words : List Text) → is_some (form_of words) ≡ true → IsRead 
 form_read [] some = absurd (cc some)
 form_read (word ∷ words) some = go (row_of word) refl some
   where
-    go : (o : Option Row) → row_of word ≡ o → is_some (option_and_then (λ row. form_with row.kinds row.form words) o) ≡ true → IsRead (word ∷ words)
+    go : (o : Option Row) → row_of word ≡ o → is_some (option_and_then (λ row. form_with row.kinds row.form words) o)
+        ≡ true → IsRead (word ∷ words)
     go None e h = absurd (cc h)
     go (Some row) e h =
         let found = found_row (λ r. is_few (length r.kinds)) rows word row e refl in
         let is : row.word ≡ word = (bytes_eq-Decides row.word word).0 found.0 in
         subst (λ w. IsRead (w ∷ words)) is
-        (row_read row words h found.1 (subst (λ w. find (λ s. answers_to w (label_of s)) (map leaf rows) ≡ Some (leaf row)) (sym is) found.2))
+        (row_read row words h found.1 (subst (λ w. find (λ s. answers_to w (label_of s)) (map leaf rows)
+        ≡ Some (leaf row)) (sym is) found.2))
 
 pub is_taken : (words : List Text) → is_some (form_of words) ≡ true → takes lines_app words ≡ true
 is_taken words some = (form_read words some).0
 
-pub is_read : (words : List Text) → is_some (form_of words) ≡ true → read (subcommand_of lines_app words) ≡ form_of words
+pub is_read : (words : List Text) → is_some (form_of words) ≡ true → read (subcommand_of lines_app words)
+    ≡ form_of words
 is_read words some = (form_read words some).1

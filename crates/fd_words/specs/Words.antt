@@ -25,6 +25,8 @@ pub data Form : Type 0 where
   Upgrade : List ℕ → Form
   -- `fault MASTER BUS KIND`
   Fault : List ℕ → List ℕ → Kinds → Form
+  -- `ladder MASTER`
+  Ladder : List ℕ → Form
 
 -- whether a word may name a file or a bus: it isn't empty and doesn't start with a dash
 abbrev pub names_file : List ℕ → Bool
@@ -65,6 +67,7 @@ rows = record { word = codes "solve"; kinds = File ∷ []; form = Solve }
     ∷ record { word = codes "bench"; kinds = Number ∷ Sections ∷ []; form = Bench }
     ∷ record { word = codes "upgrade"; kinds = File ∷ []; form = Upgrade }
     ∷ record { word = codes "fault"; kinds = File ∷ Bus ∷ Short ∷ []; form = Fault }
+    ∷ record { word = codes "ladder"; kinds = File ∷ []; form = Ladder }
     ∷ []
 
 -- a row's word and kinds
@@ -103,6 +106,7 @@ form_in (words.Gen number sections) = Gen number sections
 form_in (words.Bench number sections) = Bench number sections
 form_in (words.Upgrade name) = Upgrade name.now
 form_in (words.Fault master bus kind) = Fault master.now bus.now kind
+form_in (words.Ladder master) = Ladder master.now
 
 -- a feeder has a section
 abbrev pub has_sections : Words → Type 0

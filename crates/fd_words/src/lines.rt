@@ -98,6 +98,10 @@ fn form_of_words<'a>(name: &str, words: &[&'a str]) -> Option<Form<'a>>
             }),
             _ => None,
         },
+        "ladder" => match words {
+            [master] => Some(Form::Ladder(file_of(master)?)),
+            _ => None,
+        },
         _ => None,
     }
 }

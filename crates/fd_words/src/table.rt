@@ -19,7 +19,7 @@ pub enum Kind {
 /// A form: its first word, and the kinds of the words behind it.
 pub(crate) type Row = (&'static str, &'static [Kind]);
 
-pub(crate) const ROWS: [Row; 7] = [
+pub(crate) const ROWS: [Row; 8] = [
     ("solve", &[File]),
     ("cert", &[File]),
     ("check", &[File, File]),
@@ -27,4 +27,5 @@ pub(crate) const ROWS: [Row; 7] = [
     ("bench", &[Number, Sections]),
     ("upgrade", &[File]),
     ("fault", &[File, Bus, Short]),
+    ("ladder", &[File]),
 ];

@@ -33,6 +33,8 @@ pub enum Form<'a> {
         bus: &'a str,
         kind: Short,
     },
+    /// Ladder sweeps beside the Solves of a script.
+    Ladder(&'a str),
 }
 
 // The form that the command makes of words that are one.

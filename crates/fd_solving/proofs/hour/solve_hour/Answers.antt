@@ -34,7 +34,7 @@ returns-in-Ok-clause-made c n number =
     let made : IsMade circuit (hour_powers circuit.elements hour) m rs (Ok tt) k = record {
       left_is = e.machine;
       ends = e.ends;
-      computed = computed {T = Unit {0}} (limits_of circuit.options) (plant_at circuit hour) c.new-solver.result m rs (Ok tt) new.solver e.acts e.ends e.calls;
+      computed = computed {T = Unit {0}} (limits_of circuit.options) (plant_at circuit hour) c.args.solver.now m rs (Ok tt) new.solver e.acts e.ends e.calls;
       sound = e.sound;
       positions = of_hour circuit hour (positions_in new.at) new.underway.powers u.powers e.powers c.requires.underway.powers e.positions;
       tried = tt;
@@ -46,7 +46,7 @@ pub failure_of-requires-clause-within : goal.failure_of-requires-clause-within
 failure_of-requires-clause-within c =
     let circuit = c.args.circuit.now in
     let u = c.args.underway.now in
-    within (limits_of circuit.options) circuit (hour_powers circuit.elements (hour_in u.day)) c.new-solver.result
+    within (limits_of circuit.options) circuit (hour_powers circuit.elements (hour_in u.day)) c.args.solver.now
     (begun_hour circuit u.day (machine_in c.args.at.now u)) c.daily_run-ended.new.underway.rounds.items c.in-Err.fault
     c.daily_run-ended.new.solver c.layout.result.now (c.layout.ensures ∙ c.in-Err.ensures.built.layout)
     c.in-Err.ensures.calls
@@ -64,11 +64,11 @@ returns-in_ok-failure-in-Err-clause-made c n number =
     let made : IsMade circuit (hour_powers circuit.elements hour) m rs (Err c.in-Err.fault) k = record {
       left_is = e.machine;
       ends = e.ends;
-      computed = computed {T = Unit {0}} (limits_of circuit.options) (plant_at circuit hour) c.new-solver.result m rs
+      computed = computed {T = Unit {0}} (limits_of circuit.options) (plant_at circuit hour) c.args.solver.now m rs
           (Err c.in-Err.fault) new.solver e.acts e.ends e.calls;
       sound = e.sound;
       positions = of_hour circuit hour (positions_in new.at) new.underway.powers u.powers e.powers c.requires.underway.powers e.positions;
-      tried = tried_by_calls (limits_of circuit.options) (plant_at circuit hour) c.new-solver.result m rs (Err c.in-Err.fault) new.solver e.calls;
+      tried = tried_by_calls (limits_of circuit.options) (plant_at circuit hour) c.args.solver.now m rs (Err c.in-Err.fault) new.solver e.calls;
     } in
     ended_by_fault circuit hour (kept_in (machine_in c.args.at.now u) n) rs k c.requires.ready
     c.options-options.ensures.in_range.maxcontroliter refl c.in-Err.fault c.in_ok-failure-in-Err.failure

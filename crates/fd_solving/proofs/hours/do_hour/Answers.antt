@@ -223,6 +223,8 @@ returns-then-is_none-clause-left g c none =
     record {
       after_hour = record {
         positions = c.in-Ok.ensures.positions;
+        loads = c.in-Ok.ensures.loads;
+        probes = c.in-Ok.ensures.probes;
         day = c.in-Ok.ensures.day;
         built = c.in-Ok.ensures.built;
         work = c.in-Ok.ensures.work;

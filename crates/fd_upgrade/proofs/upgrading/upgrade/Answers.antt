@@ -1,9 +1,9 @@
 use Rattle.std.proofs.Common.{◌∙◌, ℕ, List, Option, append-nil, subst, sym}
 use Rattle.fd_solving.specs.dss_model.Names.{bytes}
 use Rattle.fd_solving.specs.fd_outside.Answers.{answered, names_asked}
-use Rattle.fd_solving.proofs.CallerLemmas.fd_outcome.{untold_first}
+use Rattle.fd_solving.proofs.CallerLemmas.fd_outcome.{asked_for, asked_none, ends_failed, held_is, later_read, untold_first}
 use Rattle.fd_upgrade.specs.Upgrading.{IsUpgradeOf}
-use Rattle.fd_upgrade.proofs.Asking.{answered_runs, answered_untold, asked_for, asked_none, ends_failed, held_is, later_read, named_runs, short_runs, unread_runs, unread_untold}
+use Rattle.fd_upgrade.proofs.Asking.{answered_runs, answered_untold, named_runs, short_runs, unread_runs, unread_untold}
 use Rattle.fd_upgrade.proofs.upgrading.upgrade.Goals as goal
 
 pub returns-in_default-clause-run : goal.returns-in_default-clause-run

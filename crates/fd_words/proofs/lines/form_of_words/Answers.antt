@@ -14,4 +14,5 @@ returns-in_default-clause-form c =
       unlike _ word d.not-bench,
       unlike _ word d.not-upgrade,
       unlike _ word d.not-fault,
+      unlike _ word d.not-ladder,
     ) refl

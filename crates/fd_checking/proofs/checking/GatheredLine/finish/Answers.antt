@@ -7,7 +7,8 @@ use Rattle.fd_check.specs.fd_outside.Files.{held}
 use Rattle.fd_checking.specs.Checks.{IsJudged, gathered}
 use Rattle.fd_checking.specs.Gathered.{solved_by}
 use Rattle.fd_checking.specs.Judged.{IsAnsweredSo, history_in}
-use Rattle.fd_checking.proofs.Judging.{asked_for, asked_none, ends_failed, held_is, judged_told, judged_untold, later_read, short_untold, told_as, unasked_told, unread_told, unread_untold}
+use Rattle.fd_solving.proofs.CallerLemmas.fd_outcome.{asked_for, asked_none, ends_failed, held_is, later_read}
+use Rattle.fd_checking.proofs.Judging.{judged_told, judged_untold, short_untold, told_as, unasked_told, unread_told, unread_untold}
 use Rattle.fd_checking.proofs.checking.GatheredLine.finish.Goals as goal
 
 pub returns-clause-told : goal.returns-clause-told

@@ -1,0 +1,2 @@
+-- Lemmas that callers cite.
+pub use Rattle.fd_sweeping.proofs.Only.{one_ladder}

@@ -1,0 +1,10 @@
+pub mod Only
+pub mod Answering
+pub mod Stepped
+pub mod Besides
+pub mod Paged
+pub mod Agreed
+pub mod Points
+pub mod Started
+pub mod Swept
+pub mod CallerLemmas
