@@ -8,5 +8,6 @@ mod RoundTrips
 mod Written
 mod Certified
 mod Gathers
+mod Waiting
 mod Steadily
 mod Promised

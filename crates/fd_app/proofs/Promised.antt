@@ -7,7 +7,7 @@ use Rattle.fd_checking.specs.dss_ready.Passed.{PassedLaw}
 use Rattle.fd_checking.specs.dss_script.Said.{ended_by, said_of}
 use Rattle.fd_bench.specs.fd_outside.Answers.{Answer}
 use Rattle.fd_bench.specs.fd_outside.Files.{Files}
-use Rattle.fd_words.specs.Words.{Form, Solve, Cert, Check, Gen, Bench, Upgrade, Fault}
+use Rattle.fd_words.specs.Words.{Form, Solve, Cert, Check, Gen, Bench, Upgrade, Fault, Ladder}
 use Rattle.fd_checking.specs.fd_certfile.Laws.{CertificateLaw}
 use Rattle.fd_checking.specs.fd_check.Checking.{after, due, open_solves}
 use Rattle.fd_checking.specs.fd_daily.Underway.{no_positions}
@@ -28,7 +28,11 @@ use Rattle.fd_checking.specs.fd_solving.SolvedLaw.{SolvedLaw}
 use Rattle.fd_app.specs.Meaning.{MeaningLaw}
 use Rattle.fd_shorting.specs.StudiedLaw.{StudiedLaw}
 use Rattle.fd_shorting.specs.Studies.{IsStudy}
-use Rattle.fd_app.specs.Promise.{AreStudied, AreTrue, IsPromised, IsTrue, outside_of}
+use Rattle.fd_sweeping.specs.Agreements.{IsSweptSettle}
+use Rattle.fd_sweeping.specs.SweptLaw.{SweptLaw}
+use Rattle.fd_app.specs.Printing.{outside_of}
+use Rattle.fd_app.specs.Promise.{AreTrue, IsPromised, IsTrue}
+use Rattle.fd_app.specs.Sentences.{AreStudied, AreSwept}
 use Rattle.fd_app.specs.Rounds.{EachRound, EnclosesLinear, HasEach, IsExact, MeetsEquations}
 use Rattle.fd_bench.specs.Bench.{feeder_files, feeder_name}
 use Rattle.fd_app.specs.Run.{IsFormHistory, RunsOver, kind_of}
@@ -90,9 +94,27 @@ studied_true events all = record {
   exact = each_studied IsExact IsSolution (λ s study. study.solved.solutions) is_exact events all;
 }
 
+solved_too : (e : Event) → IfSettle IsSweptSettle e → IfSettle IsSolved e
+solved_too (settle s) swept = swept.solved
+solved_too (asked n) swept = tt
+solved_too (row fields) swept = tt
+solved_too (event.line t) swept = tt
+
+swept_true : (events : List Event) → All (IfSettle IsSweptSettle) events → AreSwept events
+swept_true events swept =
+    let all = All-weaker (IfSettle IsSweptSettle) (IfSettle IsSolved) solved_too events swept in
+    record {
+      equations = each_round MeetsEquations meets_equations events all;
+      enclosed = each_round _ (λ c hour at m is. is.encloses) events all;
+      sizes = each_round _ (λ c hour at m is. is.sizes) events all;
+      linear = each_round EnclosesLinear (λ c hour at m is. record { all = is.encloses_all; sizes = is.sizes_of_all }) events all;
+      exact = each_round IsExact is_exact events all;
+      swept = swept;
+    }
+
 -- ---- a history
 
-module _ (studied : StudiedLaw) (solved : SolvedLaw) (passed : PassedLaw) (rules : RuleLaw) (certificates : CertificateLaw) (meaning : MeaningLaw) where
+module _ (swept : SweptLaw) (studied : StudiedLaw) (solved : SolvedLaw) (passed : PassedLaw) (rules : RuleLaw) (certificates : CertificateLaw) (meaning : MeaningLaw) where
   script_true : (files : Files) (name : List ℕ) (h : History) → IsScriptHistory files (said_of files name) h
       → AreTrue (said_of files name) h.events
   script_true files name h is =
@@ -116,6 +138,7 @@ module _ (studied : StudiedLaw) (solved : SolvedLaw) (passed : PassedLaw) (rules
   history_true files (Some (Gen number sections)) h is = tt
   history_true files (Some (Fault master bus kind)) h is =
       studied_true h.events (studied files (chars master) (chars bus) (kind_of kind) h is)
+  history_true files (Some (Ladder master)) h is = swept_true h.events (swept files (chars master) h is)
   history_true files (Some (Upgrade name)) h is = λ none solved_of answer.
       upgrade_answers due after files (chars name) h is none (open_solves solved_of no_positions 0) answer
   history_true files (Some (Bench number sections)) h is = λ solving right. script_true (feeder_files number sections) (chars feeder_name) solving right

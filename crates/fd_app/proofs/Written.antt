@@ -18,7 +18,8 @@ use Rattle.fd_checking.specs.fd_solving.SolvedLaw.{SolvedLaw}
 use Rattle.fd_app.specs.Run.{FormsLaw, IsFormHistory}
 use Rattle.fd_words.specs.Words.{Cert}
 use Rattle.fd_app.specs.Accepted.{HaveTaken}
-use Rattle.fd_app.specs.Promise.{IsPromised, Outside}
+use Rattle.fd_app.specs.Printing.{Outside}
+use Rattle.fd_app.specs.Promise.{IsPromised}
 use Rattle.fd_app.specs.Written.{RoundTripLaw, WrittenLaw}
 use Rattle.fd_app.specs.Printed.{all_rounds, bytes_by}
 use Rattle.fd_app.specs.Solves.{solves_of}

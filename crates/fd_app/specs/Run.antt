@@ -4,7 +4,7 @@ use Rattle.std.specs.Str.{chars}
 use Rattle.fd_bench.specs.fd_outside.Answers.{AgreesSince, Answer}
 use Rattle.fd_bench.specs.fd_outside.Files.{Files}
 use Rattle.fd_checking.specs.dss_script.Said.{said_of}
-use Rattle.fd_words.specs.Words.{Form, Solve, Cert, Check, Gen, Bench, Upgrade, Fault}
+use Rattle.fd_words.specs.Words.{Form, Solve, Cert, Check, Gen, Bench, Upgrade, Fault, Ladder}
 use Rattle.fd_words.specs.declared.shorts.Short.{Short}
 use Rattle.fd_words.specs.declared.shorts.Short.TheVariants as short
 use Rattle.fd_checking.specs.fd_report.declared.faults.Fault.TheVariants as fault
@@ -19,35 +19,44 @@ use Rattle.fd_shorting.specs.fd_fault.declared.kind.Kind.{Kind}
 use Rattle.fd_shorting.specs.fd_fault.declared.kind.Kind.TheVariants as kind
 use Rattle.fd_shorting.specs.Pages.{short_report}
 use Rattle.fd_shorting.specs.Shorting.{IsFaultHistory}
+use Rattle.fd_sweeping.specs.Pages.{ladder_report}
+use Rattle.fd_sweeping.specs.Sweeping.{IsLadderHistory}
 use Rattle.fd_bench.specs.Bench.{IsBenchHistory, lines_alone, script_written}
 
--- the files agree with what was answered in a call, where its form asks for a name
-abbrev pub AgreesIn : Option Form → List Answer → List Answer → Files → Type 0
-AgreesIn None before now files = Unit {0}
-AgreesIn (Some (Solve file)) before now files = AgreesSince files before now
-AgreesIn (Some (Cert file)) before now files = AgreesSince files before now
-AgreesIn (Some (Check script name)) before now files = AgreesSince files before now
-AgreesIn (Some (Gen number sections)) before now files = Unit {0}
-AgreesIn (Some (Bench number sections)) before now files = Unit {0}
-AgreesIn (Some (Upgrade name)) before now files = AgreesSince files before now
-AgreesIn (Some (Fault master bus kind)) before now files = AgreesSince files before now
+-- ---- how a form is done
 
-abbrev pub style_of : Option Form → Style
-style_of None = report
-style_of (Some (Solve file)) = report
-style_of (Some (Cert file)) = certificate
-style_of (Some (Check script name)) = report
-style_of (Some (Gen number sections)) = report
-style_of (Some (Bench number sections)) = lines_alone
-style_of (Some (Upgrade name)) = report
-style_of (Some (Fault master bus kind)) = short_report
+-- whether it asks for names of files, how it prints, and whether a text tells an end without a fault
+pub record Manner : Type 0 where
+  pub asks : Bool
+  pub style : Style
+  pub tells : Bool
 
--- whether a text tells an end without a fault; `solve` may still run out of memory as it looks for a command behind the
--- last one, and `fault` behind its one settle
-abbrev pub tells_end : Option Form → Bool
-tells_end (Some (Solve file)) = false
-tells_end (Some (Fault master bus kind)) = false
-tells_end other = true
+abbrev pub asking : Style → Bool → Manner
+asking style tells = record { asks = true; style = style; tells = tells }
+
+-- of a form that asks for no name, and whose last text tells its end
+abbrev pub alone : Style → Manner
+alone style = record { asks = false; style = style; tells = true }
+
+-- `solve` and `ladder` may still run out of memory as they look for a command behind the last one, and `fault` behind its
+-- one settle
+abbrev pub manner_of : Option Form → Manner
+manner_of None = alone report
+manner_of (Some (Solve file)) = asking report false
+manner_of (Some (Cert file)) = asking certificate true
+manner_of (Some (Check script name)) = asking report true
+manner_of (Some (Gen number sections)) = alone report
+manner_of (Some (Bench number sections)) = alone lines_alone
+manner_of (Some (Upgrade name)) = asking report true
+manner_of (Some (Fault master bus kind)) = asking short_report false
+manner_of (Some (Ladder master)) = asking ladder_report false
+
+-- the files agree with what was answered in a call, where names are asked
+abbrev pub AgreesIf : Bool → List Answer → List Answer → Files → Type 0
+AgreesIf true before now files = AgreesSince files before now
+AgreesIf false before now files = Unit {0}
+
+-- ---- what is done
 
 -- the kind of short circuit that a word names
 abbrev pub kind_of : Short → Kind
@@ -67,6 +76,7 @@ IsFormHistory files (Some (Bench number sections)) h = IsBenchHistory number sec
 IsFormHistory files (Some (Upgrade name)) h = IsUpgradeHistory files (chars name) h
 IsFormHistory files (Some (Fault master bus kind)) h =
     IsFaultHistory files (said_of files (chars master)) (chars master) (chars bus) (kind_of kind) h
+IsFormHistory files (Some (Ladder master)) h = IsLadderHistory files (said_of files (chars master)) h
 
 -- there is exactly one
 abbrev pub FormsLaw : Type 0
@@ -78,10 +88,10 @@ module _ {L S : Type 0} (answers : L → List Answer) (taken : S → List ℕ) (
   -- the one history of the form over these files is done, whole or cut short
   abbrev pub RunsOver : Files → Option Form → L → L → S → S → ℕ → Type 0
   RunsOver files form lib_old lib_new old new code =
-      Runs answers taken calls lib_old lib_new old new (λ h. IsFormHistory files form h) (style_of form) (tells_end form) code
+      Runs answers taken calls lib_old lib_new old new (λ h. IsFormHistory files form h) (manner_of form).style (manner_of form).tells code
 
   -- so over all files that agree with what was answered in the call
   abbrev pub RunsForm : Option Form → L → L → S → S → ℕ → Type 0
   RunsForm form lib_old lib_new old new code =
-      (files : Files) → AgreesIn form (answers lib_old) (answers lib_new) files
+      (files : Files) → AgreesIf (manner_of form).asks (answers lib_old) (answers lib_new) files
       → RunsOver files form lib_old lib_new old new code

@@ -1,15 +1,19 @@
--- The acts of a whole run, over any states that solve its rounds.
-use Rattle.std.specs.Prelude.{◌≡◌, ◌⊎◌, ℕ, ◌+◌, List, [], ◌∷◌, map}
+-- The acts of a whole run, and what waits at the end of each Solve, over any states that solve its rounds.
+use Rattle.std.specs.Prelude.{◌≡◌, ◌⊎◌, ℕ, ◌+◌, List, [], ◌∷◌, map, Option, None}
 use Rattle.fd_checking.specs.fd_exact.States.{State}
+use Rattle.fd_checking.specs.dss_script.Said.{Part}
 use Rattle.fd_checking.specs.fd_enclosure.Sound.{Claim}
 use Rattle.fd_checking.specs.fd_settle.Plant.{controls_in, setup_of}
 use Rattle.fd_checking.specs.fd_settle.Sampling.{look_at}
 use Rattle.fd_checking.specs.fd_settle.Settle.{Outcome, outcome_of}
 use Rattle.fd_checking.specs.fd_certfile.Rules.{moves}
-use Rattle.fd_checking.specs.fd_check.Checking.{Checking, Settling, act_due, behind_round, done, sampled_by, under_way}
+use Rattle.fd_checking.specs.fd_check.Checking.{Checking, Settling, act_due, behind_round, done, open_solves, sampled_by, under_way}
+use Rattle.fd_checking.specs.fd_daily.Underway.{no_positions}
 use Rattle.fd_checking.specs.fd_outcome.Events.{Event, settle}
 use Rattle.fd_checking.specs.fd_outcome.Settles.{Round, Settle, claim_in, settled}
 use Rattle.fd_checking.specs.fd_solving.Headline.{IsOtherState}
+use Rattle.fd_app.specs.Solves.{solves_of}
+use Rattle.fd_app.specs.Waiting.{IsEnd, IsLastAtFault, Left, left_at_end}
 
 -- ---- one round
 
@@ -38,21 +42,26 @@ pub record IsLastOfFault (x : Settle) (r : Round) (rounds : List Round) : Type 0
   pub fault : x.end ≡ settled → ⊥
 
 -- The round that is due is this one. Its acts are those of the queue machine over any state that solves it, and so it
--- goes on with the rounds behind it, whatever state was chosen; where a settle ends with a fault, no act follows its last
--- round, of which nothing more is said.
-abbrev pub AreSteadyFrom : Settle → ℕ → List Round → (Checking → Type 0) → Checking → Type 0
-AreSteadyFrom x k [] rest t = rest t
-AreSteadyFrom x k (r ∷ rounds) rest done = ⊥
-AreSteadyFrom x k (r ∷ rounds) rest (under_way s) =
+-- goes on with the rounds behind it, whatever state was chosen, and at last with what the settle left; where a settle
+-- ends with a fault, no act follows its last round, of which nothing more is said.
+abbrev pub AreSteadyFrom : Settle → ℕ → List Round → Option Left → (Option Left → Checking → Type 0) → Checking → Type 0
+AreSteadyFrom x k [] l rest t = rest l t
+AreSteadyFrom x k (r ∷ rounds) l rest done = ⊥
+AreSteadyFrom x k (r ∷ rounds) l rest (under_way s) =
     IsDue s x k
     × ((y : State) → Solves s (claim_in r) y
     → IsLastOfFault x r rounds
     ⊎ ((sampled_by (outcome_at s y) ≡ moves (map act_due r.acts))
-    × AreSteadyFrom x (k + 1) rounds rest (behind_round s (outcome_at s y))))
+    × AreSteadyFrom x (k + 1) rounds (left_at_end s.hours (outcome_at s y)) rest (behind_round s (outcome_at s y))))
 
 -- ---- all settles, through all hours of all Solves
 
 abbrev pub AreSteady : List Event → Checking → Type 0
 AreSteady [] t = Unit {0}
-AreSteady (settle x ∷ events) t = AreSteadyFrom x 0 x.rounds (λ u. AreSteady events u) t
+AreSteady (settle x ∷ events) t =
+    IsLastAtFault x events × AreSteadyFrom x 0 x.rounds None (λ l u. IsEnd x l events × AreSteady events u) t
 AreSteady (other ∷ events) t = AreSteady events t
+
+-- so from the first Solve of a script on, before which no positions and no settles are
+abbrev pub AreSteadyThroughout : Part → List Event → Type 0
+AreSteadyThroughout p events = AreSteady events (open_solves (solves_of p) no_positions 0)

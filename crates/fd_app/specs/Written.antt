@@ -9,7 +9,8 @@ use Rattle.fd_checking.specs.fd_outcome.Events.{History}
 use Rattle.fd_words.specs.Words.{Cert, Check}
 use Rattle.fd_app.specs.Accepted.{HasAccepted, HaveTaken}
 use Rattle.fd_app.specs.Printed.{all_rounds, bytes_by}
-use Rattle.fd_app.specs.Promise.{IsPromised, Outside}
+use Rattle.fd_app.specs.Printing.{Outside}
+use Rattle.fd_app.specs.Promise.{IsPromised}
 use Rattle.fd_app.specs.Run.{IsFormHistory}
 use Rattle.fd_app.specs.Solves.{solves_of}
 

@@ -17,8 +17,10 @@
 //! - `accepted`: the laws of what `cert` writes, no code
 //! - `meaning`: the law of what `check` accepts, no code
 //!
-//! Specs: `Promise`, what `run` promises; `Run`, the history of a command line; `Steady`, the acts of a whole run over any
-//! states; `Rounds`, what is said of each printed round; `Meaning`, what an accepted certificate means; `Solves`, the
+//! Specs: `Promise`, what `run` promises, with `Printing`, what a call prints, asks and writes, and `Sentences`, what is true
+//! of the words beside a script's; `Told`, the promise over a library that tells what it holds; `Run`, the history and the
+//! manner of a command line; `Steady` and `Waiting`, the acts of a whole run over any states, and what waits at the end of
+//! each Solve; `Rounds`, what is said of each printed round; `Meaning`, what an accepted certificate means; `Solves`, the
 //! Solves of a script; `Printed`, the bytes and the rounds of a history; `Accepted` and `Written`, what `cert` writes.
 #![tactic(auto)]
 

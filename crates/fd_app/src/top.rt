@@ -6,7 +6,9 @@ ghost use Rattle.fd_bench.specs.fd_outside.Files.{Files};
 ghost use Rattle.fd_checking.specs.fd_outcome.Events.{History};
 ghost use Rattle.fd_checking.specs.fd_outcome.Laws.{IsDue};
 ghost use Rattle.fd_checking.specs.fd_outcome.Untold.{Answers, EndsAtRead};
-ghost use Rattle.fd_app.specs.Promise.{IsPromised, Outside, Promised, ToldLaw};
+ghost use Rattle.fd_app.specs.Printing.{Outside};
+ghost use Rattle.fd_app.specs.Promise.{IsPromised, Promised};
+ghost use Rattle.fd_app.specs.Told.{ToldLaw};
 ghost use Rattle.fd_app.specs.Run.{FormsLaw, IsFormHistory, RunsForm, kind_of};
 ghost use Rattle.fd_words.specs.Words.{form_of};
 
@@ -17,6 +19,7 @@ use fd_checking::{
     rule_law, solve, solved_law,
 };
 use fd_shorting::{Kind, fault, studied_law};
+use fd_sweeping::{ladder, swept_law};
 use fd_upgrade::upgrade;
 use fd_words::{Form, Short, form_of};
 use std::alloc::Global;
@@ -63,6 +66,7 @@ fn perform<L: Library, S: Sink>(alloc: Global, words: &[String], lib: &mut L, ou
         Some(Form::Fault { master, bus, kind }) => {
             fault(alloc, master, bus, kind_of(kind), lib, out)
         }
+        Some(Form::Ladder(master)) => ladder(alloc, master, lib, out),
     }
 }
 
@@ -85,6 +89,7 @@ fn perform<L: Library, S: Sink>(alloc: Global, words: &[String], lib: &mut L, ou
 /// | 12 | a control is due to act after as many acts as the options allow |
 /// | 13 | the certificate is refused |
 /// | 14 | a node of a short circuit isn't one of the circuit's |
+/// | 15 | a circuit isn't radial |
 ///
 /// The words are those after the program's name. `solve FILE` does the commands of the script of that name, and prints
 /// the rounds of each Solve, with the acts of its controls, before the next command is read; `cert FILE` does the same,
@@ -93,7 +98,8 @@ fn perform<L: Library, S: Sink>(alloc: Global, words: &[String], lib: &mut L, ou
 /// prints the script of a feeder from a number, and `bench NUMBER SECTIONS` solves that script, of which it prints one
 /// record. `upgrade CERTIFICATE` prints a certificate of either version in the second, line for line, and judges no more
 /// than its grammar. `fault MASTER BUS KIND` does the commands of a script but solves nothing, and then solves the
-/// circuit of a short circuit at a bus once. Each record is handed to the sink by one write. A refusal is printed with
+/// circuit of a short circuit at a bus once. `ladder MASTER` does the commands of a script; each Solve is one solution in
+/// snapshot, of which no control takes part, and a record says what Kersting's ladder sweep comes to beside it. Each record is handed to the sink by one write. A refusal is printed with
 /// its file, its line and its cause, a failed read with the file's name, a fault of the procedure with the first
 /// unknown that it is found at, a mismatch with its row, a state without a certificate with the unknown whose bound
 /// reaches one, an undecided sample with its control, and a refused certificate with its line and the rule that it
@@ -118,6 +124,7 @@ pub fn run<L: Library, S: Sink>(alloc: Global, words: &[String], lib: &mut L, ou
     ensures write { result ≡ 5 → Rose (S.faults out.old) (S.faults out.new) }
 {
     studied_law();
+    swept_law();
     solved_law();
     passed_law();
     rule_law();

@@ -8,7 +8,7 @@ use Rattle.fd_checking.proofs.CallerLemmas.fd_outcome.{fault_alone, fault_answer
 use Rattle.fd_bench.specs.Bench.{IsBenchHistory, lines_alone, script_written}
 use Rattle.fd_bench.proofs.CallerLemmas.{alone_runs, printed_alone}
 use Rattle.fd_words.specs.declared.words.Form.{Form as Words}
-use Rattle.fd_words.specs.Words.{Cert, Check, Solve, form_in, form_of, Bench, Fault, Gen, Upgrade}
+use Rattle.fd_words.specs.Words.{Cert, Check, Solve, form_in, form_of, Bench, Fault, Gen, Ladder, Upgrade}
 use Rattle.fd_app.proofs.Runs.{form_short}
 use Rattle.fd_app.proofs.top.perform.Goals as goal
 
@@ -165,3 +165,13 @@ returns-in-Some-Fault-clause-run g c files =
 
 pub returns-in-Some-Fault-clause-usage : goal.returns-in-Some-Fault-clause-usage
 returns-in-Some-Fault-clause-usage g c two = absurd (c.fault.ensures.untold.usage two)
+
+pub returns-in-Some-Ladder-clause-run : goal.returns-in-Some-Ladder-clause-run
+returns-in-Some-Ladder-clause-run g c files =
+    let form : form_of (map string_bytes c.args.words.now) ≡ Some (Ladder c.in-Some-Ladder.master.now) =
+    sym c.in-Ok.ensures.form ∙ ap (option_map form_in) c.in-Some-Ladder.is
+    ∙ ap (λ (w : Words). Some (form_in w)) (rw c.in-Some-Ladder.is at c.in-Some-Ladder.field-0-is) in
+    rw form (c.ladder.ensures.run files)
+
+pub returns-in-Some-Ladder-clause-usage : goal.returns-in-Some-Ladder-clause-usage
+returns-in-Some-Ladder-clause-usage g c two = absurd (c.ladder.ensures.untold.usage two)
