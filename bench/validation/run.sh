@@ -2,7 +2,8 @@
 # Solves the IEEE 13-node feeder with the built program and prints the tables of docs/VALIDATION.md: its published
 # magnitudes beside ours, at the published taps; the same where the distributed load stands in the middle of its line,
 # where bus 650 is held besides, where the regulators have no impedance, and where the loads have their nominal voltage and wide
-# limits; and where the regulators come to rest, with the voltages of their relays. Then those of the other feeders (others.py).
+# limits; and where the regulators come to rest, with the voltages of their relays. Then those of the other feeders (others.py), and what
+# ladder sweeps come to (sweeps.py).
 set -eu
 here=$(cd "$(dirname "$0")" && pwd)
 top=$(cd "$here/../.." && pwd)
@@ -27,3 +28,4 @@ python3 "$here/table.py" "$work/held.csv" "$work/ideal.csv" "$work/wide.csv" | t
 grep -E '^(act|tap),' "$work/regulated.csv"
 python3 "$here/relays.py" "$work/regulated.csv" "$work/published.csv"
 python3 "$here/others.py"
+python3 "$here/sweeps.py" "$binary"

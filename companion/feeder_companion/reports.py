@@ -11,6 +11,7 @@ import re
 from collections.abc import Callable, Iterator
 from dataclasses import dataclass, field
 from pathlib import Path
+from typing import Any
 
 from . import decimals
 from .intervals import Interval, Phasor
@@ -153,10 +154,17 @@ class Short:
 
 @dataclass(frozen=True, slots=True)
 class Sweep:
-    """What a ladder sweep comes to: the word, and the fields behind it."""
+    """What a ladder sweep comes to beside a solution: the word, and what goes with it, else None.
+
+    That is the unknown that it names; how many sweeps were made, or in which one a part went out of range; and the greatest
+    difference from the solution and the bound of it over all parts of voltages, in microvolts.
+    """
 
     answer: str
-    fields: tuple[str, ...]
+    unknown: str | None = None
+    sweeps: int | None = None
+    gap: int | None = None
+    radius: int | None = None
 
 
 @dataclass(slots=True)
@@ -414,17 +422,35 @@ def add_short(report: Report, fields: list[str]) -> None:
     report.settles[-1].shorts.append(it)
 
 
-SWEEPS = {"agrees": 3, "wide": 1, "apart": 1, "not converged": 1, "out of range": 2}
-"""What a sweep may come to, and the number of fields behind it."""
+def unknown(text: str) -> str:
+    """The name of an unknown or its row, as `b.1 re` or `load.a 1 mag`."""
+    if not text or not text.isprintable():
+        raise ValueError(text)
+    return text
+
+
+SWEEPS = {
+    "agrees": ("sweeps", "gap", "radius"),
+    "wide": ("unknown",),
+    "apart": ("unknown",),
+    "not converged": ("sweeps",),
+    "out of range": ("unknown", "sweeps"),
+}
+"""What a sweep may come to, and the fields behind it."""
+
+SWEEP_FIELDS: dict[str, Callable[[str], Any]] = {"unknown": unknown, "sweeps": whole, "gap": size, "radius": size}
+"""What reads each of these fields."""
 
 
 def add_sweep(report: Report, fields: list[str]) -> None:
     answer, *rest = fields or [""]
     if answer not in SWEEPS:
         raise ValueError(answer)
-    if len(rest) != SWEEPS[answer]:
+    names = SWEEPS[answer]
+    if len(rest) != len(names):
         raise BadRecord(WRONG_COUNT)
-    report.settles[-1].sweep = Sweep(answer, tuple(rest))
+    values = {name: SWEEP_FIELDS[name](text) for name, text in zip(names, rest, strict=True)}
+    report.settles[-1].sweep = Sweep(answer, **values)
 
 
 def add_base(report: Report, fields: list[str]) -> None:

@@ -240,11 +240,14 @@ def shorts_table(report: Report) -> Table:
 
 
 def sweeps_table(report: Report) -> Table:
-    """What ladder sweeps come to."""
-    table = Table("sweeps", {"settle": PRINTED, **dict.fromkeys(("answer", "fields"), CERTIFIED)})
+    """What ladder sweeps come to, each beside the solution of its settle."""
+    columns = ("answer", "unknown", "sweeps", "gap_v", "radius_v")
+    table = Table("sweeps", {"settle": PRINTED, **dict.fromkeys(columns, CERTIFIED)})
     for settle in report.settles:
-        if settle.sweep is not None:
-            table.rows.append([str(settle.number), settle.sweep.answer, " ".join(settle.sweep.fields)])
+        it = settle.sweep
+        if it is not None:
+            volts = ["" if value is None else show(value, 6) for value in (it.gap, it.radius)]
+            table.rows.append([str(settle.number), it.answer, it.unknown or "", "" if it.sweeps is None else str(it.sweeps), *volts])
     return table
 
 

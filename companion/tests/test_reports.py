@@ -5,7 +5,7 @@ import unittest
 from support import EXAMPLES, FIRST, NODE, Folder
 
 from feeder_companion.certificates import UnreadableCertificate, derived_difference, first_difference, parse_certificate
-from feeder_companion.reports import Fault, UnreadableReport, parse_report, read_report
+from feeder_companion.reports import Fault, Sweep, UnreadableReport, parse_report, read_report
 
 CERTIFICATE = (
     """cert 1
@@ -76,9 +76,25 @@ class Reports(Folder):
         self.assertEqual((it.radius, it.low, it.high), (2, 1000000001, 1000000005))
 
     def test_sweeps_are_read(self):
-        for record in ("agrees,9,0.000000,0.000000", "wide,b.1 re", "not converged,150", "out of range,b.1 re,11"):
-            sweep = parse_report((FIRST + f"ladder,{record}\n").encode()).settles[0].sweep
-            self.assertEqual((sweep.answer, *sweep.fields), tuple(record.split(",")))
+        cases = [
+            ("agrees,9,0.000002,0.005062", Sweep("agrees", None, 9, 2, 5062)),
+            ("wide,b.1 re", Sweep("wide", "b.1 re")),
+            ("apart,load.m 1 mag", Sweep("apart", "load.m 1 mag")),
+            ("not converged,150", Sweep("not converged", None, 150)),
+            ("out of range,line.l 1 re,11", Sweep("out of range", "line.l 1 re", 11)),
+        ]
+        for record, sweep in cases:
+            self.assertEqual(parse_report((FIRST + f"ladder,{record}\n").encode()).settles[0].sweep, sweep)
+        for record in ("near,b.1 re", "agrees,-1,0.000002,0.005062", "agrees,9,0.000002,-0.005062", "apart,"):
+            with self.assertRaises(UnreadableReport):
+                parse_report((FIRST + f"ladder,{record}\n").encode())
+
+    def test_a_report_of_sweeps_is_that_of_solve_besides(self):
+        swept, solved = read_report(EXAMPLES / "radial.ladder"), read_report(EXAMPLES / "radial.out")
+        self.assertEqual(swept.settles[0].sweep, Sweep("agrees", None, 7, 7, 2905))
+        swept.settles[0].sweep = None
+        self.assertEqual(swept.settles, solved.settles)
+        self.assertEqual(parse_report(b"fault,not radial,line.b\n").fault.status, 15)
 
     def test_a_fault_ends_a_report_and_says_its_status(self):
         report = parse_report((FIRST + 'fault,script,"a,b.dss",3,unknown class\n').encode())

@@ -17,11 +17,11 @@ BASES = "base,sourcebus,1.732050\nbase,b,0.866025\n"
 
 
 class Tables(Folder):
-    def tables(self, name, script=True):
+    def tables(self, name, script=True, ending="out"):
         status, said, wrong = self.call(
             "tables",
             tables.main,
-            EXAMPLES / f"{name}.out",
+            EXAMPLES / f"{name}.{ending}",
             *([EXAMPLES / f"{name}.dss"] if script else []),
             "--into",
             self.folder,
@@ -63,6 +63,13 @@ class Tables(Folder):
     def test_a_fault_is_a_table(self):
         self.tables("refused-class", script=False)
         self.assertEqual(self.rows("fault")[0]["status:printed"], "3")
+
+    def test_what_a_sweep_comes_to_is_a_table(self):
+        self.tables("radial", ending="ladder")
+        row = {name.partition(":")[0]: text for name, text in self.rows("sweeps")[0].items()}
+        agrees = {"settle": "1", "answer": "agrees", "unknown": "", "sweeps": "7", "gap_v": "0.000007", "radius_v": "0.002905"}
+        self.assertEqual(row, agrees)
+        self.assertEqual(len(self.rows("losses")), 11)
 
     def test_frames_have_numbers_where_pandas_is_there(self):
         if importlib.util.find_spec("pandas") is None:
