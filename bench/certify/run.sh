@@ -1,5 +1,5 @@
 #!/usr/bin/env bash
-# Times `certify` beside one `invert` of the same Jacobian. Each matrix of ../elimination/matrices is taken as the contributions of a network
+# Times `certify` beside one `invert_rows` of the same Jacobian. Each matrix of ../elimination/matrices is taken as the contributions of a network
 # without part loads, at the state 0. Needs `rt`. Prints, for each matrix, the least times of the rounds and their ratio.
 # `run.sh N` makes N rounds; 5 unless said.
 set -eu

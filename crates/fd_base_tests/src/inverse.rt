@@ -137,8 +137,15 @@ fn inverse_cells(
     n: u32,
     cells: &[i128],
 ) -> Result<Vec<i128>, InverseFault> {
-    holds(rt, cells.len() == n as usize * n as usize);
-    let a = Dense::from_cells(n, Vec::from_slice(alloc, cells)?);
+    let mut a = Dense::zero(alloc, n)?;
+    for row in 0..n {
+        for col in 0..n {
+            holds(rt, row < a.size() && col < a.size());
+            let place = (row as usize).wrapping_mul(n as usize);
+            let entry = at(cells, place.wrapping_add(col as usize));
+            a.set(row, col, i64::try_from(entry).unwrap_or(0));
+        }
+    }
     holds(rt, a.first_column_past(ENTRY_LIMIT).is_none());
     let c = invert(alloc, a)?;
     Ok(all_cells(alloc, &c)?)
@@ -168,7 +175,9 @@ fn sparse_inverse_cells(
 fn all_cells(alloc: Global, a: &Dense) -> Result<Vec<i128>, AllocError> {
     let mut cells = Vec::new(alloc);
     for row in 0..a.size() {
-        cells.extend_from_slice(a.row(row))?;
+        for entry in a.row(row) {
+            cells.push(i128::from(*entry))?;
+        }
     }
     Ok(cells)
 }

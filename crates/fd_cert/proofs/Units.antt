@@ -1,6 +1,6 @@
 -- Whole numbers within 2^120, and sums of columns.
 use Rattle.std.proofs.Common.{◌≡◌, ◌≢◌, ◌∙◌, ℕ, zero, suc, ◌+◌, ◌<◌, ◌≤◌, ◌^◌, ℤ, pos, ◌+ℤ◌, ◌*ℤ◌, nat_abs, true, false, List, length, set, Option, Some, None, IfNone, IfSome, is_some, FitsSigned, to_z, of_z, ◌⊎◌, arith, ap, refl, sym, subst, inl, inr}
-use Rattle.std.specs.Int.{w128}
+use Rattle.std.specs.Int.{w64, w128}
 use Rattle.std.proofs.lemmas.Int.{ints, to_z-of_z, fits_signed_from_abs}
 use Rattle.std.proofs.lemmas.Bool.{cases_eq}
 use Rattle.std.proofs.lemmas.List.{get_or-set_same, get_or-set_other, length-set}
@@ -16,6 +16,13 @@ use Rattle.fd_cert.specs.Columns.{AreColumns, AreUnits, HasEntries, IsRow, colum
 
 pub kept_by : (z : ℤ) → nat_abs z ≤ 2 ^ 126 → to_z w128 (of_z w128 z) ≡ z
 kept_by z h = to_z-of_z w128 z (fits_signed_from_abs w128 z (omega arith))
+
+-- a number of 64 bits, in 128
+widened : (n : ℕ) → to_z w128 (of_z w128 (to_z w64 n)) ≡ to_z w64 n
+widened n = omega (arith, ints)
+
+pub widened_is : (z : ℤ) → FitsSigned w64 z → to_z w128 (of_z w128 (to_z w64 (of_z w64 z))) ≡ z
+widened_is z f = widened (of_z w64 z) ∙ to_z-of_z w64 z f
 
 pub fits_by : (z : ℤ) → nat_abs z ≤ 2 ^ 120 → Fits z
 fits_by z h = (omega (arith, ints), omega (arith, ints))

@@ -81,7 +81,7 @@ fn sizes_by_weight(numbers: &[i128], weights: &[i128]) -> Option<u128>
 //
 // Never inlined: beside the other loops of a row LLVM would keep its places in memory.
 #[inline(never)]
-fn plus_sizes(total: u128, factors: &[i128], numbers: &[u128]) -> Option<u128>
+fn plus_sizes(total: u128, factors: &[i64], numbers: &[u128]) -> Option<u128>
     requires total { total ≤ 2 ^ 120 }
     requires factors { IsRowOfInverse (length numbers.now) factors.now }
     ensures { IsTotal (total + sizes_total (length numbers.now) factors.now numbers.now) result }
@@ -105,7 +105,7 @@ fn plus_sizes(total: u128, factors: &[i128], numbers: &[u128]) -> Option<u128>
 fn short_row_total(
     numbers: &[i128],
     shorts: &[u64],
-    factors: &[i128],
+    factors: &[i64],
     lows: &[u64],
     highs: &[High],
 ) -> Option<u128>
@@ -183,7 +183,7 @@ pub struct Slopes<'a, 'b> {
 }
 
 // The bound of a row with these factors, a row of the inverse. The sums are as long as a row, and written anew.
-fn bound(slopes: &Slopes, row: u32, factors: &[i128], sums: &mut [i128]) -> Option<i128>
+fn bound(slopes: &Slopes, row: u32, factors: &[i64], sums: &mut [i128]) -> Option<i128>
     requires slopes { AreSlopes slopes.now.jacobian.matrix.now slopes.now.radii.items slopes.now.weights.now }
     requires shorts { IfSome slopes.now.shorts (λ s. AreShortWeights slopes.now.weights.now s.items) }
     requires parts { IfSome slopes.now.parts (λ p. AreParts slopes.now.radii.items p.lows.items p.highs.items) }
@@ -204,7 +204,7 @@ fn bound(slopes: &Slopes, row: u32, factors: &[i128], sums: &mut [i128]) -> Opti
 }
 
 // The bound of a row with these factors from the sums of the Jacobian's columns, each row times its factor.
-fn bound_of_sums(slopes: &Slopes, row: u32, factors: &[i128], sums: &mut [i128]) -> Option<i128>
+fn bound_of_sums(slopes: &Slopes, row: u32, factors: &[i64], sums: &mut [i128]) -> Option<i128>
     requires slopes { AreSlopes slopes.now.jacobian.matrix.now slopes.now.radii.items slopes.now.weights.now }
     requires shorts { IfSome slopes.now.shorts (λ s. AreShortWeights slopes.now.weights.now s.items) }
     requires parts { IfSome slopes.now.parts (λ p. AreParts slopes.now.radii.items p.lows.items p.highs.items) }
@@ -227,7 +227,7 @@ fn bound_of_sums(slopes: &Slopes, row: u32, factors: &[i128], sums: &mut [i128])
 
 // What is left of a row of the unit matrix and what the radii add, by weight, where the weights are short, the radii
 // have parts, and what is left has 64 bits.
-fn usual_row_total(slopes: &Slopes, factors: &[i128], left: &[i128]) -> Option<u128>
+fn usual_row_total(slopes: &Slopes, factors: &[i64], left: &[i128]) -> Option<u128>
     requires few { length left.now ≤ 2 ^ 11 }
     requires weights { length slopes.now.weights.now ≡ length left.now }
     requires radii { length slopes.now.radii.items ≡ length left.now }
@@ -247,7 +247,7 @@ fn usual_row_total(slopes: &Slopes, factors: &[i128], left: &[i128]) -> Option<u
 }
 
 // What is left of a row of the unit matrix and what the radii add, by weight.
-fn row_total(slopes: &Slopes, factors: &[i128], left: &[i128]) -> Option<u128>
+fn row_total(slopes: &Slopes, factors: &[i64], left: &[i128]) -> Option<u128>
     requires few { length left.now ≤ 2 ^ 11 }
     requires weights { length slopes.now.weights.now ≡ length left.now }
     requires radii { length slopes.now.radii.items ≡ length left.now }
@@ -288,8 +288,8 @@ fn two_bounds(
     slopes: &Slopes,
     entries: &[Entry],
     row: u32,
-    first: &[i128],
-    second: &[i128],
+    first: &[i64],
+    second: &[i64],
     sums: &mut [i128],
     others: &mut [i128],
 ) -> (Option<i128>, Option<i128>)

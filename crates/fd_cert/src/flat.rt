@@ -81,17 +81,17 @@ pub fn entries_of(alloc: Global, matrix: &Matrix) -> Result<Option<Vec<Entry>>, 
 }
 
 // A factor times a short entry: one multiplication of 64 bits.
-fn times(factor: i128, units: i64) -> i128
+fn times(factor: i64, units: i64) -> i128
     requires factor { nat_abs factor ≤ 2 ^ 56 }
     requires units { nat_abs units ≤ 2 ^ 48 }
     ensures value { result ≡ factor *ℤ units }
     ensures small { nat_abs result ≤ 2 ^ 104 }
 {
-    (factor as i64) as i128 * units as i128
+    factor as i128 * units as i128
 }
 
 // Adds to the sum of each column its entries, each times the factor of its row.
-pub fn add_entries(sums: &mut [i128], entries: &[Entry], factors: &[i128])
+pub fn add_entries(sums: &mut [i128], entries: &[Entry], factors: &[i64])
     requires entries { AreShort (length sums.old) entries.now }
     requires factors { IsRowOfInverse (length sums.old) factors.now }
     requires zero { (j : ℕ) → part sums.old j ≡ pos 0 }
@@ -111,8 +111,8 @@ pub fn add_entries_of_two(
     sums: &mut [i128],
     others: &mut [i128],
     entries: &[Entry],
-    first: &[i128],
-    second: &[i128],
+    first: &[i64],
+    second: &[i64],
 )
     requires entries { AreShort (length sums.old) entries.now }
     requires long { length others.old ≡ length sums.old }

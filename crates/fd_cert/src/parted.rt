@@ -4,7 +4,7 @@ ghost use Rattle.fd_enclosure.specs.fd_exact.States.{part};
 ghost use Rattle.fd_cert.specs.Columns.{IsRowOfInverse};
 ghost use Rattle.fd_cert.specs.Parts.{AreHigh, AreParts, high_sum, with_high};
 
-use crate::totals::{entry_size, plus_short};
+use crate::totals::plus_short;
 use std::alloc::{AllocError, Global};
 
 // 2^60, and how often a number may have it, 2^10 times.
@@ -74,7 +74,7 @@ pub fn parts_of(alloc: Global, numbers: &[u128]) -> Result<Option<Parted>, Alloc
 }
 
 // How often there is 2^60 in the products of the sizes of the entries of a row of the inverse with numbers, added up.
-pub fn high_total(factors: &[i128], highs: &[High]) -> u128
+pub fn high_total(factors: &[i64], highs: &[High]) -> u128
     requires factors { IsRowOfInverse (length factors.now) factors.now }
     requires few { length factors.now ≤ 2 ^ 11 }
     requires highs { AreHigh (length factors.now) highs.now }
@@ -82,7 +82,7 @@ pub fn high_total(factors: &[i128], highs: &[High]) -> u128
 {
     let mut total = 0;
     for high in highs {
-        total = plus_short(total, high.times, entry_size(factors[high.place]));
+        total = plus_short(total, high.times, factors[high.place].unsigned_abs());
     }
     total
 }

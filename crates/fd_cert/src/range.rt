@@ -29,11 +29,11 @@ pub fn has_size(
 }
 
 // Whether an entry is too wide.
-fn has_wide_entry(row: &[i128]) -> bool
+fn has_wide_entry(row: &[i64]) -> bool
     ensures { result ≡ has_wide_entry (length row.now) row.now }
 {
     for col in 0..row.len() {
-        if row[col].unsigned_abs() > ENTRY_LIMIT {
+        if row[col].unsigned_abs() as u128 > ENTRY_LIMIT {
             return true;
         }
     }
@@ -41,7 +41,7 @@ fn has_wide_entry(row: &[i128]) -> bool
 }
 
 // Whether a centre, its radius or an entry of its row is out of range.
-fn is_past_range(centre: i128, radius: u128, row: &[i128]) -> bool
+fn is_past_range(centre: i128, radius: u128, row: &[i64]) -> bool
     ensures { result ≡ is_past_range (length row.now) centre radius row.now }
 {
     centre.unsigned_abs() > CENTRE_LIMIT || radius > RADIUS_LIMIT || has_wide_entry(row)

@@ -13,7 +13,6 @@ ghost use Rattle.fd_cert.specs.Columns.{AreWeights, HasNumbers, HasWeights, IsRo
 ghost use Rattle.fd_cert.specs.Reaches.{AreTight, bound_in, is_unbounded, named_bound, radius_of, reach_in};
 
 use crate::rounding::ceil_over;
-use crate::totals::entry_size;
 use fd_enclosure::Dense;
 use std::alloc::{AllocError, Global};
 
@@ -28,17 +27,17 @@ const PRODUCT_LIMIT: u128 = 0x100_0000_0000_0000_0000_0000_0000_0000;
 pub const RADIUS_LIMIT: u128 = 0x100_0000_0000;
 
 // The size of an entry of the inverse times a mismatch: one multiplication of 64 bits.
-fn share(entry: i128, mismatch: u128) -> u128
+fn share(entry: i64, mismatch: u128) -> u128
     requires entry { nat_abs entry ≤ 2 ^ 56 }
     requires mismatch { mismatch ≤ greatest_mismatch }
     ensures share { result ≡ nat_abs entry * mismatch }
     ensures small { result ≤ 2 ^ 66 }
 {
-    entry_size(entry) as u128 * (mismatch as u64) as u128
+    entry.unsigned_abs() as u128 * (mismatch as u64) as u128
 }
 
 // The sum of the sizes of a row of the inverse, each times twice the mismatch.
-fn spread(factors: &[i128], mismatch: &[u128]) -> u128
+fn spread(factors: &[i64], mismatch: &[u128]) -> u128
     requires factors { IsRowOfInverse (length mismatch.now) factors.now }
     requires few { length mismatch.now ≤ 2 ^ 11 }
     requires tight { AreTight mismatch.now }
@@ -53,7 +52,7 @@ fn spread(factors: &[i128], mismatch: &[u128]) -> u128
 }
 
 // How far an unknown may be from the centre by the inverse alone, over its weight, in units of 2^-60.
-fn reach(factors: &[i128], mismatch: &[u128], weight: u128) -> u128
+fn reach(factors: &[i64], mismatch: &[u128], weight: u128) -> u128
     requires factors { IsRowOfInverse (length mismatch.now) factors.now }
     requires few { length mismatch.now ≤ 2 ^ 11 }
     requires tight { AreTight mismatch.now }

@@ -70,7 +70,7 @@ fn add_products(sums: &mut [i128], cells: &[Cell], factor: i128) -> Option<u32>
 
 // Writes into `sums` for each column the sum over the rows of the factor of the row times the entry. Gives a column at which a product or
 // a sum passes 2^120, if there is one.
-fn column_sums(sums: &mut [i128], matrix: &Matrix, factors: &[i128]) -> Option<u32>
+fn column_sums(sums: &mut [i128], matrix: &Matrix, factors: &[i64]) -> Option<u32>
     requires made { IsMade matrix.now }
     requires factors { length factors.now ≡ matrix.now.size }
     requires sums { length sums.old ≡ matrix.now.size }
@@ -83,7 +83,7 @@ fn column_sums(sums: &mut [i128], matrix: &Matrix, factors: &[i128]) -> Option<u
         IfSome result (λ j. (j < matrix.now.size) × (column_sum (part factors.now) J j matrix.now.size ≡ None)) }
 {
     for row in 0..matrix.size() {
-        let past = add_products(sums, matrix.row(row), factors[row as usize]);
+        let past = add_products(sums, matrix.row(row), factors[row as usize] as i128);
         if past.is_some() {
             return past;
         }
@@ -117,7 +117,7 @@ impl<'a> Walk<'a> {
     }
 
     // The same as `column_sums`, without tests where all entries are short.
-    pub fn sums(&self, sums: &mut [i128], factors: &[i128]) -> Option<u32>
+    pub fn sums(&self, sums: &mut [i128], factors: &[i64]) -> Option<u32>
         requires made { IsMade self.now.matrix.now }
         requires flat { IfSome self.now.entries (λ es. IsFlatOf self.now.matrix.now es.items) }
         requires factors { IsRowOfInverse self.now.matrix.now.size factors.now }

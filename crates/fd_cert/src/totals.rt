@@ -37,14 +37,6 @@ pub fn plus_product(total: u128, factor: u128, number: u128) -> Option<u128>
     }
 }
 
-// The size of an entry of an inverse, in 64 bits.
-pub fn entry_size(entry: i128) -> u64
-    requires { nat_abs entry ≤ 2 ^ 56 }
-    ensures { result ≡ nat_abs entry }
-{
-    (entry as i64).unsigned_abs()
-}
-
 // The product of two numbers of 64 bits: one multiplication.
 fn short_product(left: u64, right: u64) -> u128
     ensures { result ≡ left * right }
@@ -54,12 +46,12 @@ fn short_product(left: u64, right: u64) -> u128
 
 // The same as `plus_product` for the size of an entry of an inverse, in one multiplication where the number has 64
 // bits.
-pub fn plus_entry(total: u128, entry: i128, number: u128) -> Option<u128>
+pub fn plus_entry(total: u128, entry: i64, number: u128) -> Option<u128>
     requires total { total ≤ 2 ^ 120 }
     requires entry { nat_abs entry ≤ 2 ^ 56 }
     ensures { IsTotal (total + nat_abs entry * number) result }
 {
-    let size = entry_size(entry);
+    let size = entry.unsigned_abs();
     if number <= HALF {
         up_to_limit(total + short_product(size, number as u64))
     } else {
@@ -102,12 +94,12 @@ pub fn plus_short(total: u128, short: u64, number: u64) -> u128
 }
 
 // The total with the product of the size of an entry of an inverse and a number below 2^60 more: one multiplication.
-pub fn plus_low(total: u128, entry: i128, low: u64) -> u128
+pub fn plus_low(total: u128, entry: i64, low: u64) -> u128
     requires total { total ≤ 2 ^ 127 }
     requires entry { nat_abs entry ≤ 2 ^ 56 }
     requires low { low < 2 ^ 60 }
     ensures sum { result ≡ total + nat_abs entry * low }
     ensures small { (k : ℕ) → total ≤ k * 2 ^ 116 → result ≤ (k + 1) * 2 ^ 116 }
 {
-    total + short_product(entry_size(entry), low)
+    total + short_product(entry.unsigned_abs(), low)
 }

@@ -158,7 +158,7 @@ module _ (v : Version) (due : ℕ) (x : Ahead) (lines : List Line) where
       → numbered_at (row_at v (count_of x.head.size)) (count_of x.head.size) 0 mid ≡ Ok (rows, lines_of x.acts.now)
       → (acts_at (lines_of x.acts.now)).1 ≡ lines_of x.rest.now
       → map part x.parts.items ≡ kept (is_place due x.head.size) parts
-      → x.cells.items ≡ kept (is_place due x.head.size) (cells_of rows)
+      → x.cells ≡ kept (is_place due x.head.size) (cells_of rows)
       → x.lines ≡ 1 + (count_of x.head.size + (count_of x.head.size + length (acts_at (lines_of x.acts.now)).0))
       → IsAhead v due (solution x.head.number x.head.hour x.head.round x.head.size ∷ lines) x
   ahead_is parts mid rows p r a ps cs n = record {

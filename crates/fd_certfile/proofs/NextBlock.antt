@@ -121,11 +121,11 @@ module _ (r : ReaderView) (n : ℕ) (x : Ahead) (h : HasAhead r n x) where
   widths : AllByRecursion (λ q. length q ≡ n) h.block.inverse
   widths = subst (λ m. AllByRecursion (λ q. length q ≡ m) h.block.inverse) counted spelled.sized.entries
 
-  pub ahead_long : length x.cells.items ≡ n * n
+  pub ahead_long : length x.cells ≡ n * n
   ahead_long = ap length h.cells ∙ length-cells n h.block.inverse widths
       ∙ ap (λ m. m * n) (spelled.sized.rows ∙ counted)
 
-  pub ahead_square : square n x.cells.items ≡ h.block.inverse
+  pub ahead_square : square n x.cells ≡ h.block.inverse
   ahead_square = ap (square n) h.cells ∙ square-cells n h.block.inverse (spelled.sized.rows ∙ counted) widths
 
 -- what a reader passes over

@@ -18,7 +18,7 @@ pub record IsAhead (v : Version) (due : ℕ) (lines : List Line) (x : Ahead) : T
   pub round : x.head.round ≡ block.round
   pub size : x.head.size ≡ block.size
   pub parts : map part x.parts.items ≡ kept (is_place due block.size) block.parts
-  pub cells : x.cells.items ≡ kept (is_place due block.size) (cells_of block.inverse)
+  pub cells : x.cells ≡ kept (is_place due block.size) (cells_of block.inverse)
   pub acts : (acts_at (lines_of x.acts.now)).0 ≡ block.acts
   pub count : x.lines ≡ lines_count block
 

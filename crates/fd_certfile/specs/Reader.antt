@@ -13,6 +13,7 @@ use Rattle.fd_certfile.specs.declared.fault.CertFileFault.TheVariants as fault
 use Rattle.fd_settle.specs.fd_cert.declared.rule.Rule.{Rule}
 use Rattle.fd_settle.specs.fd_cert.declared.rule.Rule.TheVariants.{Count, Grammar, Size}
 use Rattle.fd_certfile.specs.declared.reader.Claimed.{Claimed}
+use Rattle.fd_settle.specs.fd_mat.Rows.{square}
 use Rattle.fd_certfile.specs.declared.reader.Given.{Given}
 use Rattle.fd_certfile.specs.declared.ahead.Head.{Head}
 
@@ -110,7 +111,7 @@ pub record HasAhead (r : ReaderView) (n : ℕ) (x : Ahead) : Type 0 where
   pub same : block_at r.version r.lines ≡ Ok (block, lines_of x.rest.now)
   pub size : block.size ≡ pos n
   pub parts : map part x.parts.items ≡ block.parts
-  pub cells : x.cells.items ≡ cells_of block.inverse
+  pub cells : x.cells ≡ cells_of block.inverse
   pub acts : (acts_at (lines_of x.acts.now)).0 ≡ block.acts
   pub count : x.lines ≡ lines_count block
 
@@ -138,7 +139,7 @@ pub record IsNext (before : ReaderView) (n : ℕ) (claimed : Claimed) (after : R
   pub block : Block
   pub next : next_of before n ≡ Ok (block, after)
   pub parts : map part claimed.parts.items ≡ block.parts
-  pub inverse : claimed.inverse ≡ block.inverse
+  pub inverse : square n claimed.cells.items ≡ block.inverse
 
 -- a refusal, or want of memory, leaves the reader as it was
 abbrev pub GivesNext : ReaderView → ℕ → Result Claimed CertFileFault → ReaderView → Type 0

@@ -8,6 +8,7 @@ ghost use Rattle.fd_certfile.specs.Readings.{due_in, lines_before, moved};
 ghost use Rattle.fd_certfile.specs.Views.{head, view};
 
 use crate::block::{Part, acts, parts, rows};
+use crate::cells::Cells;
 use crate::cut::cut;
 use crate::fault::Stop;
 use crate::line::{Line, read_line};
@@ -30,7 +31,7 @@ pub(crate) struct Head {
 pub(crate) struct Ahead<'a> {
     pub head: Head,
     pub parts: Vec<Part>,
-    pub cells: Vec<i128>,
+    pub cells: Cells,
     pub acts: &'a [u8],
     pub rest: &'a [u8],
     pub lines: u128,

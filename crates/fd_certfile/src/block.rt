@@ -6,6 +6,7 @@ ghost use Rattle.fd_certfile.specs.Lines.{lines_of};
 ghost use Rattle.fd_certfile.specs.Readings.{Keeps, act_in, as_they_are, cells_of, kept, parts_at, rows_at};
 ghost use Rattle.fd_certfile.specs.Views.{act, part, view};
 
+use crate::cells::Cells;
 use crate::cut::cut;
 use crate::fault::Stop;
 use crate::line::{Line, read_line};
@@ -85,14 +86,14 @@ pub(crate) fn parts(
 }
 
 // Room for the entries of so many rows of so many, where they are kept.
-fn room(alloc: Global, keep: bool, count: u64) -> Result<Vec<i128>, AllocError>
-    ensures { IfOk result (λ cells. cells.items ≡ []) }
+fn room(alloc: Global, keep: bool, count: u64) -> Result<Cells, AllocError>
+    ensures { IfOk result (λ cells. cells ≡ []) }
 {
     if !keep {
-        return Ok(Vec::new(alloc));
+        return Ok(Cells::new(alloc));
     }
     match usize::try_from(count.saturating_mul(count)) {
-        Ok(places) => Vec::with_capacity(alloc, places),
+        Ok(places) => Cells::with_capacity(alloc, places),
         Err(_) => Err(AllocError),
     }
 }
@@ -105,8 +106,8 @@ pub(crate) fn rows(
     version: Version,
     count: u64,
     bytes: &[u8],
-) -> Result<(Vec<i128>, &[u8]), Stop>
-    ensures { Keeps cells_of keep (λ x. x.0.items) (λ x. lines_of x.1.now) result (lines_of bytes.now) (rows_at version count (lines_of bytes.now)) }
+) -> Result<(Cells, &[u8]), Stop>
+    ensures { Keeps cells_of keep (λ x. x.0) (λ x. lines_of x.1.now) result (lines_of bytes.now) (rows_at version count (lines_of bytes.now)) }
 {
     let mut cells = room(alloc, keep, count)?;
     let mut rest = bytes;

@@ -7,6 +7,7 @@ ghost use Rattle.fd_settle.specs.fd_cert.Rechecks.{IsBoxed, boxed_claim};
 ghost use Rattle.fd_certfile.specs.Claiming.{centre_in, mismatch_in, radius_in};
 
 use crate::block::Part;
+use crate::cells::Cells;
 use fd_settle::{Ball, Broken, Certified, Dense, NetworkRows, boxed};
 use std::alloc::{AllocError, Global};
 
@@ -59,12 +60,13 @@ pub(crate) fn claimed(
     net: &NetworkRows,
     size: u32,
     parts: &[Part],
-    cells: Vec<i128>,
+    cells: Cells,
 ) -> Result<Result<Certified, Broken>, AllocError>
-    requires { length cells.items ≡ size * size }
+    requires size { size ≡ net.now.size }
+    requires long { length cells ≡ size * size }
     ensures first { IfOk result (λ t.
         IsBoxed net.now (boxed_claim net.now (map centre_in parts.now) (map radius_in parts.now)
-        (map mismatch_in parts.now) (square size cells.items)) t) }
+        (map mismatch_in parts.now) (square size cells)) t) }
     ensures sound { IfOk result (λ t. IfOk t (λ m. IsSound net.now (claim_in m))) }
 {
     let ball = Ball {
@@ -72,5 +74,24 @@ pub(crate) fn claimed(
         radius: radii(alloc, parts)?,
     };
     let mismatch = mismatches(alloc, parts)?;
-    boxed(alloc, net, ball, mismatch, Dense::from_cells(size, cells))
+    boxed_cells(alloc, net, size, ball, mismatch, cells)
+}
+
+// As `boxed`, of an inverse whose entries may need more than 64 bits.
+fn boxed_cells(
+    alloc: Global,
+    net: &NetworkRows,
+    size: u32,
+    ball: Ball,
+    mismatch: Vec<u128>,
+    cells: Cells,
+) -> Result<Result<Certified, Broken>, AllocError>
+    requires size { size ≡ net.now.size }
+    requires long { length cells ≡ size * size }
+    ensures first { IfOk result (λ t.
+        IsBoxed net.now (boxed_claim net.now ball.centre.items ball.radius.items mismatch.items (square size cells)) t) }
+    ensures sound { IfOk result (λ t. IfOk t (λ m. IsSound net.now (claim_in m))) }
+{
+    let inverse = Dense::from_cells(size, cells.into_shorts());
+    boxed(alloc, net, ball, mismatch, inverse)
 }

@@ -23,6 +23,7 @@
 //! - `short`: numbers of few digits
 //! - `field`: the fields of a line
 //! - `line`: a line
+//! - `cells`: numbers in 64 bits, and beside them those that need more
 //! - `row`: a row of an inverse, read into cells
 //! - `block`: unknowns, rows and acts of a block
 //! - `ahead`: a block that is read ahead
@@ -35,6 +36,7 @@
 
 mod ahead;
 mod block;
+mod cells;
 mod claim;
 mod claimed_acts;
 mod cut;

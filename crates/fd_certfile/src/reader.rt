@@ -18,16 +18,16 @@ use crate::fault::{CertFileFault, Stop};
 use crate::line::read_line;
 use crate::row::is_place;
 use crate::version::{Version, version_named};
-use fd_settle::{Act, Certified, Dense, Limits, NetworkRows, Rule, Solver};
+use fd_settle::{Act, Certified, Limits, NetworkRows, Rule, Solver};
 use std::alloc::{AllocError, Global};
 use std::marker::Model;
 
-/// What a block claims: of each unknown and its row in order, and an inverse, a row for each unknown and a column for
-/// each row, in units of 2^-40.
+/// What a block claims: of each unknown and its row in order, and the entries of an inverse, a row for each unknown and a
+/// column for each row, row by row, in units of 2^-40. Nothing is said of their range.
 #[derive(Debug, Drop)]
 pub struct Claimed {
     pub parts: Vec<Part>,
-    pub inverse: Dense,
+    pub cells: Vec<i128>,
 }
 
 // A block that was given: the bytes from its acts on, and the number of the line behind its inverse.
@@ -179,10 +179,11 @@ impl<'a> CertReader<'a> {
         ensures { GivesNext self.old size result self.new }
     {
         let ahead = self.ahead(alloc, size)?;
+        let cells = ahead.cells.to_numbers(alloc)?;
         self.pass(size, ahead.acts, ahead.rest, ahead.lines)?;
         Ok(Claimed {
             parts: ahead.parts,
-            inverse: Dense::from_cells(size, ahead.cells),
+            cells,
         })
     }
 

@@ -7,6 +7,7 @@ ghost use Rattle.fd_certfile.specs.Numbers.{numbers_of};
 ghost use Rattle.fd_certfile.specs.Readings.{AreSteps, HasNext, IsNext, IsNoNext, IsPut, IsUnput, PushesRow, entries_by, is_between, kept, row_in, zeros};
 ghost use Rattle.fd_certfile.specs.Views.{view};
 
+use crate::cells::Cells;
 use crate::field::{Fields, first};
 use crate::line::Line;
 use crate::version::Version;
@@ -27,8 +28,8 @@ fn is_between(from: u64, below: u64, number: i128) -> bool
 }
 
 // Adds a number where numbers are kept.
-fn push_kept(cells: &mut Vec<i128>, keep: bool, number: i128) -> Result<(), AllocError>
-    ensures { OnOk result (cells.new.items ≡ cells.old.items ++ kept keep (number ∷ [])) }
+fn push_kept(cells: &mut Cells, keep: bool, number: i128) -> Result<(), AllocError>
+    ensures { OnOk result (cells.new ≡ cells.old ++ kept keep (number ∷ [])) }
 {
     if keep {
         cells.push(number)?;
@@ -37,8 +38,8 @@ fn push_kept(cells: &mut Vec<i128>, keep: bool, number: i128) -> Result<(), Allo
 }
 
 // Adds so many zeros.
-fn push_zeros(cells: &mut Vec<i128>, count: u64) -> Result<(), AllocError>
-    ensures { OnOk result (cells.new.items ≡ cells.old.items ++ zeros count) }
+fn push_zeros(cells: &mut Cells, count: u64) -> Result<(), AllocError>
+    ensures { OnOk result (cells.new ≡ cells.old ++ zeros count) }
 {
     for _zero in 0..count {
         cells.push(0)?;
@@ -47,8 +48,8 @@ fn push_zeros(cells: &mut Vec<i128>, count: u64) -> Result<(), AllocError>
 }
 
 // Adds so many zeros where numbers are kept.
-fn push_gap(cells: &mut Vec<i128>, keep: bool, count: u64) -> Result<(), AllocError>
-    ensures { OnOk result (cells.new.items ≡ cells.old.items ++ kept keep (zeros count)) }
+fn push_gap(cells: &mut Cells, keep: bool, count: u64) -> Result<(), AllocError>
+    ensures { OnOk result (cells.new ≡ cells.old ++ kept keep (zeros count)) }
 {
     if keep {
         push_zeros(cells, count)?;
@@ -75,14 +76,14 @@ fn pair(fields: Fields<'_>) -> Option<(i128, i128, Fields<'_>)>
 // comes next, and answers the place behind it; or none, where the entry is 0 or its place isn't one of those that are
 // left.
 fn push_pair(
-    cells: &mut Vec<i128>,
+    cells: &mut Cells,
     keep: bool,
     count: u64,
     next: u64,
     place: i128,
     entry: i128,
 ) -> Result<Option<u64>, AllocError>
-    ensures some { IfOk result (λ o. IfSome o (λ behind. IsPut keep count next place entry behind cells.old.items cells.new.items)) }
+    ensures some { IfOk result (λ o. IfSome o (λ behind. IsPut keep count next place entry behind cells.old cells.new)) }
     ensures none { IfOk result (λ o. IfNone o (IsUnput count next place entry)) }
 {
     if entry == 0 || !is_between(next, count, place) {
@@ -98,7 +99,7 @@ fn push_pair(
 // the other fields; or none, where there is none. It stands at the place that comes next, or behind the place that is
 // named, with zeros between.
 fn push_next<'a>(
-    cells: &mut Vec<i128>,
+    cells: &mut Cells,
     keep: bool,
     version: Version,
     count: u64,
@@ -107,7 +108,7 @@ fn push_next<'a>(
 ) -> Result<Option<(u64, Fields<'a>)>, AllocError>
     requires { HasNext version count next }
     ensures some { IfOk result (λ o. IfSome o (λ p.
-        IsNext version keep count next cells.old.items cells.new.items
+        IsNext version keep count next cells.old cells.new
         (texts_of (option_map (λ t. t.now) fields.entry)) p.0 (texts_of (option_map (λ t. t.now) p.1)))) }
     ensures none { IfOk result (λ o. IfNone o (IsNoNext version count next (texts_of (option_map (λ t. t.now) fields.entry)))) }
 {
@@ -135,7 +136,7 @@ fn push_next<'a>(
 // they have so many steps and no more: in version 1 each entry of the row, in version 2 pairs whose places rise, with
 // no entry 0.
 fn push_steps(
-    cells: &mut Vec<i128>,
+    cells: &mut Cells,
     keep: bool,
     version: Version,
     count: u64,
@@ -144,7 +145,7 @@ fn push_steps(
 ) -> Result<bool, AllocError>
     requires { AreSteps version count steps }
     ensures { IfOk result (λ ok.
-        PushesRow keep cells.old.items cells.new.items ok
+        PushesRow keep cells.old cells.new ok
         (entries_by version count steps (numbers_of (texts_of (option_map (λ t. t.now) fields.entry))))) }
 {
     let mut rest = fields;
@@ -167,13 +168,13 @@ fn push_steps(
 
 // The same of fields of which the first is the number of pairs.
 fn push_counted(
-    cells: &mut Vec<i128>,
+    cells: &mut Cells,
     keep: bool,
     count: u64,
     fields: Fields<'_>,
 ) -> Result<bool, AllocError>
     ensures { IfOk result (λ ok.
-        PushesRow keep cells.old.items cells.new.items ok
+        PushesRow keep cells.old cells.new ok
         (row_in Sparse count (numbers_of (texts_of (option_map (λ t. t.now) fields.entry))))) }
 {
     match first(fields) {
@@ -190,14 +191,14 @@ fn push_counted(
 // Adds the entries of a row of so many that these fields have in a version, where entries are kept, and answers whether
 // they have one.
 fn push_fields(
-    cells: &mut Vec<i128>,
+    cells: &mut Cells,
     keep: bool,
     version: Version,
     count: u64,
     fields: Fields<'_>,
 ) -> Result<bool, AllocError>
     ensures { IfOk result (λ ok.
-        PushesRow keep cells.old.items cells.new.items ok
+        PushesRow keep cells.old cells.new ok
         (row_in version count (numbers_of (texts_of (option_map (λ t. t.now) fields.entry))))) }
 {
     match version {
@@ -209,14 +210,14 @@ fn push_fields(
 /// Adds the entries of the row at this place, where they are kept, and answers whether the line is such a row in a
 /// version.
 pub(crate) fn push_row(
-    cells: &mut Vec<i128>,
+    cells: &mut Cells,
     keep: bool,
     version: Version,
     count: u64,
     place: u128,
     line: &Line<'_>,
 ) -> Result<bool, AllocError>
-    ensures { IfOk result (λ ok. PushesRow keep cells.old.items cells.new.items ok (row_at version count place (view line.now))) }
+    ensures { IfOk result (λ ok. PushesRow keep cells.old cells.new ok (row_at version count place (view line.now))) }
 {
     let Line::Row(fields) = line else {
         return Ok(false);

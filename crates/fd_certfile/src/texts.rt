@@ -26,14 +26,24 @@ pub(crate) fn push_count(text: &mut Vec<u8>, count: usize) -> Result<(), AllocEr
     push_field(text, digits.format(count).as_bytes())
 }
 
+// Adds a blank and a number of 64 bits.
+fn push_short(text: &mut Vec<u8>, number: i64) -> Result<(), AllocError>
+    ensures { OnOk result (text.new.items ≡ text.old.items ++ field_text number) }
+{
+    let mut digits = Buffer::new();
+    push_field(text, digits.format(number).as_bytes())
+}
+
 // Adds a blank and a number, in 64 bits where it fits them.
 fn push_number(text: &mut Vec<u8>, number: i128) -> Result<(), AllocError>
     ensures { OnOk result (text.new.items ≡ text.old.items ++ field_text number) }
 {
-    let mut digits = Buffer::new();
     match i64::try_from(number) {
-        Ok(short) => push_field(text, digits.format(short).as_bytes()),
-        Err(_) => push_field(text, digits.format(number).as_bytes()),
+        Ok(short) => push_short(text, short),
+        Err(_) => {
+            let mut digits = Buffer::new();
+            push_field(text, digits.format(number).as_bytes())
+        }
     }
 }
 
@@ -48,25 +58,25 @@ fn push_numbers(text: &mut Vec<u8>, numbers: &[i128]) -> Result<(), AllocError>
 }
 
 // How many of the entries of a row aren't 0.
-fn count(row: &[i128]) -> usize
+fn count(row: &[i64]) -> usize
     ensures { result ≡ count_by is_entry row.now }
 {
     row.iter().filter(|entry| **entry != 0).count()
 }
 
 // Adds an entry behind its place, unless it is 0.
-fn push_entry(text: &mut Vec<u8>, place: usize, entry: i128) -> Result<(), AllocError>
+fn push_entry(text: &mut Vec<u8>, place: usize, entry: i64) -> Result<(), AllocError>
     ensures { OnOk result (text.new.items ≡ text.old.items ++ fields_text (pair_of (place, entry))) }
 {
     if entry != 0 {
         push_count(text, place)?;
-        push_number(text, entry)?;
+        push_short(text, entry)?;
     }
     Ok(())
 }
 
 // Adds the entries of a row that aren't 0, each behind its place.
-fn push_entries(text: &mut Vec<u8>, row: &[i128]) -> Result<(), AllocError>
+fn push_entries(text: &mut Vec<u8>, row: &[i64]) -> Result<(), AllocError>
     ensures { OnOk result (text.new.items ≡ text.old.items ++ fields_text (flat_map pair_of (enumerate_from 0 row.now))) }
 {
     for place in 0..row.len() {
@@ -81,7 +91,7 @@ pub(crate) fn row_record(
     alloc: Global,
     text: &mut Vec<u8>,
     place: i128,
-    row: &[i128],
+    row: &[i64],
 ) -> Result<Record, AllocError>
     ensures { IfOk result (λ r. r.bytes ≡ line_bytes (line.row (place ∷ fields_of Sparse row.now))) }
 {

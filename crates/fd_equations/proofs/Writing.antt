@@ -50,19 +50,6 @@ module _ (n : ℕ) (ps : List (ℕ × ℕ)) (cells : List Cell) (k : ℕ) (risin
           ∙ h.none row col a b (λ j lt. away j (omega arith));
     }
 
-  -- into rows that lie one after another
-  module _ (dense : List ℤ) (square : length dense ≡ n * n) (h : IsWritten n ps cells (cell dense n) k) where
-    abbrev spot : ℕ
-    spot = (key ps k).0 * n + (key ps k).1
-
-    place_in : spot < length dense
-    place_in = subst (λ m. spot < m) (sym square) (room n n (key ps k).0 (key ps k).1 row_in col_in)
-
-    pub one_set : (z : ℤ) → z ≡ (cell_at cells k).units → IsWritten n ps cells (cell (set dense spot z) n) (k + 1)
-    one_set z is = one_written (cell dense n) (cell (set dense spot z) n) h (get_or-set_same dense spot z (pos 0) place_in ∙ is)
-        (λ row col a b apart. get_or-set_other dense spot (row * n + col) z (pos 0)
-        (λ (e : row * n + col ≡ spot). let f = same_from_place row col (key ps k).0 (key ps k).1 n b col_in e in apart (sym f.0, sym f.1)))
-
   -- into a list of rows
   pub one_put : (rows : List (List ℤ)) (z : ℤ) → z ≡ (cell_at cells k).units → IsPut n ps cells rows k
       → IsPut n ps cells (with_entry rows (key ps k).0 (key ps k).1 z) (k + 1)

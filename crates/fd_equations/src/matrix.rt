@@ -1,14 +1,13 @@
 // A matrix by rows of non-zeros.
-ghost use Rattle.std.specs.Prelude.{◌≡◌, ℕ, ◌*◌, ◌<◌, ◌≤◌, ◌^◌, pos, IfOk, OnOk, length, All};
-ghost use Rattle.std.specs.List.{Contains};
-ghost use Rattle.fd_mat.specs.fd_exact.States.{cell, part, table};
+ghost use Rattle.std.specs.Prelude.{◌≡◌, ℕ, ◌<◌, ◌≤◌, ◌^◌, pos, IfOk, OnOk, length, All};
+ghost use Rattle.fd_mat.specs.fd_exact.States.{table};
 ghost use Rattle.fd_mat.specs.Rows.{EntriesWithin};
-ghost use Rattle.fd_equations.specs.Amounts.{Amount, AreCells, IsNothingElsewhere, IsRowOf, cell_at};
+ghost use Rattle.fd_equations.specs.Amounts.{Amount, AreCells, IsNothingElsewhere, IsRowOf};
 ghost use Rattle.fd_equations.specs.Matrices.{ArePut, IsMatrix, matrix_with};
-ghost use Rattle.fd_pattern.specs.Patterns.{IsInside, IsRising, IsSlot, pattern_of};
+ghost use Rattle.fd_pattern.specs.Patterns.{IsInside, IsRising, pattern_of};
 
 use crate::cells::{Cell, row_in};
-use fd_mat::{Dense, SparseRows};
+use fd_mat::SparseRows;
 use fd_pattern::Pattern;
 use std::alloc::{AllocError, Global};
 use std::marker::Model;
@@ -69,31 +68,15 @@ impl<'a> Matrix<'a> {
         row_in(self.pattern, &self.cells, row)
     }
 
-    /// The matrix with all its entries, in units of 2^-40.
-    ///
-    /// # Errors
-    /// `AllocError` where the memory for the entries is refused.
-    pub fn to_dense(&self, alloc: Global) -> Result<Dense, AllocError>
-        requires long { length self.now.cells ≡ length self.now.places }
-        ensures entries { IfOk result (λ d. (at : ℕ × ℕ → Amount) → IsMatrix self.now.size self.now at
-            → d ≡ table self.now.size self.now.size (λ row col. (at (row, col)).units)) }
-        ensures small { IfOk result (λ d. (at : ℕ × ℕ → Amount) → IsMatrix self.now.size self.now at → EntriesWithin d (2 ^ 100)) }
-    {
-        let size = self.pattern.size();
-        let width = size as usize;
-        let mut dense = vec![in alloc; 0; width * width]?;
-        write(self.pattern.places(), &self.cells, width, &mut dense);
-        Ok(Dense::from_cells(size, dense))
-    }
-
     /// The matrix by its entries that aren't 0, in units of 2^-40.
     ///
     /// # Errors
     /// `AllocError` where the memory for the entries is refused.
     pub fn to_rows(&self, alloc: Global) -> Result<SparseRows, AllocError>
         requires long { length self.now.cells ≡ length self.now.places }
-        ensures { IfOk result (λ m. (at : ℕ × ℕ → Amount) → IsMatrix self.now.size self.now at
+        ensures entries { IfOk result (λ m. (at : ℕ × ℕ → Amount) → IsMatrix self.now.size self.now at
             → m ≡ table self.now.size self.now.size (λ row col. (at (row, col)).units)) }
+        ensures small { IfOk result (λ m. (at : ℕ × ℕ → Amount) → IsMatrix self.now.size self.now at → EntriesWithin m (2 ^ 100)) }
     {
         let mut rows = SparseRows::zero(alloc, self.pattern.size());
         put(self.pattern.places(), &self.cells, &mut rows)?;
@@ -114,22 +97,4 @@ fn put(places: &[(u32, u32)], cells: &[Cell], rows: &mut SparseRows) -> Result<(
         rows.set(row, col, cells[k].units)?;
     }
     Ok(())
-}
-
-// Writes the cells at these places into rows that lie one after another.
-fn write(places: &[(u32, u32)], cells: &[Cell], width: usize, dense: &mut [i128])
-    requires small { width ≤ 2 ^ 11 }
-    requires long { length cells.now ≡ length places.now }
-    requires square { length dense.old ≡ width * width }
-    requires zero { (k : ℕ) → part dense.old k ≡ pos 0 }
-    requires inside { All (IsInside width) places.now }
-    requires rising { IsRising places.now }
-    ensures square { length dense.new ≡ width * width }
-    ensures here { (row col k : ℕ) → row < width → col < width → IsSlot places.now row col k → cell dense.new width row col ≡ (cell_at cells.now k).units }
-    ensures none { (row col : ℕ) → row < width → col < width → ¬ (Contains places.now (row, col)) → cell dense.new width row col ≡ pos 0 }
-{
-    for k in 0..places.len() {
-        let (row, col) = places[k];
-        dense[row as usize * width + col as usize] = cells[k].units;
-    }
 }

@@ -20,7 +20,7 @@ use crate::load_rows::add_loads;
 use crate::rows::linear_rows;
 use crate::weights::weights;
 use crate::{Matrix, Rows};
-use fd_mat::{Dense, SparseRows};
+use fd_mat::SparseRows;
 use fd_pattern::{Constant, Interval, Layout, LoadAt, Micro, PlaceKind, Term};
 use std::alloc::{AllocError, Global};
 use std::marker::Model;
@@ -180,23 +180,13 @@ impl<'a> Network<'a> {
         self.rows.start(alloc)
     }
 
-    /// The matrix of which the first inverse is made, in units of 2^-40.
+    /// The matrix of which the first inverse is made, by its entries that aren't 0, in units of 2^-40.
     ///
     /// # Errors
     /// `AllocError` where the memory for the entries is refused.
-    pub fn start_matrix(&self, alloc: Global) -> Result<Dense, AllocError>
-        ensures entries { IfOk result (λ d. d ≡ start_matrix_of self.now) }
-        ensures small { IfOk result (λ d. EntriesWithin d (2 ^ 100)) }
-    {
-        self.start(alloc)?.to_dense(alloc)
-    }
-
-    /// The same matrix by its entries that aren't 0.
-    ///
-    /// # Errors
-    /// `AllocError` where the memory for the entries is refused.
-    pub fn sparse_start(&self, alloc: Global) -> Result<SparseRows, AllocError>
-        ensures { IfOk result (λ m. m ≡ start_matrix_of self.now) }
+    pub fn start_matrix(&self, alloc: Global) -> Result<SparseRows, AllocError>
+        ensures entries { IfOk result (λ m. m ≡ start_matrix_of self.now) }
+        ensures small { IfOk result (λ m. EntriesWithin m (2 ^ 100)) }
     {
         self.start(alloc)?.to_rows(alloc)
     }
@@ -213,25 +203,14 @@ impl<'a> Network<'a> {
         self.rows.jacobian(alloc, x)
     }
 
-    /// The rounded Jacobian at the point x, in units of 2^-40.
+    /// The rounded Jacobian at the point x, by its entries that aren't 0, in units of 2^-40.
     ///
     /// # Errors
     /// `AllocError` where the memory for the entries is refused.
-    pub fn rounded_jacobian(&self, alloc: Global, x: &[i128]) -> Result<Dense, AllocError>
+    pub fn rounded_jacobian(&self, alloc: Global, x: &[i128]) -> Result<SparseRows, AllocError>
         requires { IsPoint self.now x.now }
-        ensures entries { IfOk result (λ d. d ≡ jacobian_of self.now x.now) }
-        ensures small { IfOk result (λ d. EntriesWithin d (2 ^ 100)) }
-    {
-        self.jacobian(alloc, x)?.to_dense(alloc)
-    }
-
-    /// The same matrix by its entries that aren't 0.
-    ///
-    /// # Errors
-    /// `AllocError` where the memory for the entries is refused.
-    pub fn sparse_jacobian(&self, alloc: Global, x: &[i128]) -> Result<SparseRows, AllocError>
-        requires { IsPoint self.now x.now }
-        ensures { IfOk result (λ m. m ≡ jacobian_of self.now x.now) }
+        ensures entries { IfOk result (λ m. m ≡ jacobian_of self.now x.now) }
+        ensures small { IfOk result (λ m. EntriesWithin m (2 ^ 100)) }
     {
         self.jacobian(alloc, x)?.to_rows(alloc)
     }

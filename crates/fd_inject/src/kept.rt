@@ -16,8 +16,8 @@ use fd_equations::{Dense, Network, Point, SparseRows};
 use std::alloc::{AllocError, Global};
 use std::marker::Model;
 
-// The matrices of the network's size that an elimination has in use at a time: its cells and the inverse.
-const MATRICES: usize = 2;
+// The matrices of the network's size that an elimination has in use at a time: its cells, which are two, and the inverse.
+const MATRICES: usize = 3;
 
 // How many pairs are kept.
 const MOST_PAIRS: usize = 4;
@@ -119,7 +119,7 @@ pub fn solve_kept(
     ensures as_before { OnErr result (kept.new ≡ kept.old) }
 {
     keep_memory(alloc, net.size());
-    let matrix = net.sparse_start(alloc)?;
+    let matrix = net.start_matrix(alloc)?;
     match kept.find(&matrix) {
         Some(place) => solve_at(alloc, net, limits, kept, place),
         None => solve_anew(alloc, net, limits, kept, matrix),
@@ -133,7 +133,7 @@ fn keep_memory(alloc: Global, size: u32)
     requires { size ≤ 2 ^ 11 }
 {
     let width = size as usize;
-    let room: Result<Vec<i128>, AllocError> = Vec::with_capacity(alloc, MATRICES * (width * width));
+    let room: Result<Vec<i64>, AllocError> = Vec::with_capacity(alloc, MATRICES * (width * width));
     drop(room);
 }
 

@@ -53,7 +53,7 @@ fn update(alloc: Global, inverse: &Dense, residual: &[i128]) -> Result<Vec<i128>
 }
 
 // The sum of the products of a matrix row and a residual.
-fn dot(row: &[i128], residual: &[i128]) -> i128
+fn dot(row: &[i64], residual: &[i128]) -> i128
     requires long { length row.now ≡ length residual.now }
     requires few { length residual.now ≤ 2 ^ 11 }
     requires entries { SizesWithin (2 ^ 56) row.now }
@@ -69,13 +69,13 @@ fn dot(row: &[i128], residual: &[i128]) -> i128
 }
 
 // An entry of an inverse times a part of a residual: one multiplication of 64 bits.
-fn product(entry: i128, residual: i128) -> i128
+fn product(entry: i64, residual: i128) -> i128
     requires entry { nat_abs entry ≤ 2 ^ 56 }
     requires residual { nat_abs residual ≤ 2 ^ 58 }
     ensures value { result ≡ entry *ℤ residual }
     ensures small { nat_abs result ≤ 2 ^ 114 }
 {
-    (entry as i64) as i128 * (residual as i64) as i128
+    entry as i128 * (residual as i64) as i128
 }
 
 // Adds an update to an iterate, part by part.

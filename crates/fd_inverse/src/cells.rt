@@ -14,12 +14,12 @@ use std::alloc::{AllocError, Global};
 const ONE: i64 = 0x100_0000_0000;
 
 // Adds a row of the matrix beside the unit matrix.
-fn push_start_row(cells: &mut Vec<i64>, entries: &[i128], row: usize) -> Result<(), AllocError>
+fn push_start_row(cells: &mut Vec<i64>, entries: &[i64], row: usize) -> Result<(), AllocError>
     requires small { IsSmall entries.now }
     ensures grown { IfOk result (λ _. Grown cells.old.items cells.new.items (beside_unit_row entries.now row) (2 * length entries.now)) }
 {
     for entry in entries {
-        cells.push(*entry as i64)?;
+        cells.push(*entry)?;
     }
     for place in 0..entries.len() {
         cells.push(if place == row { ONE } else { 0 })?;

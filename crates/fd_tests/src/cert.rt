@@ -51,13 +51,13 @@ fn network<'a>(rt: &impl Abort, rows: &'a Rows) -> NetworkRows<'a>
     NetworkRows::new(layout, rows, &INFLOW, 0)
 }
 
-const ONE: i128 = 0x100_0000_0000;
+const ONE: i64 = 0x100_0000_0000;
 
-const PAST_ENTRIES: i128 = 0x100_0000_0000_0001;
+const PAST_ENTRIES: i64 = 0x100_0000_0000_0001;
 
 // So many mismatches, a radius, the first of the mismatches, the multiple of the unit matrix that is claimed as the inverse,
 // and the rule that the claim breaks at the first place.
-type Claim = (usize, u128, u128, i128, Option<Rule>);
+type Claim = (usize, u128, u128, i64, Option<Rule>);
 
 // The point is 1,000 microvolts above the solution: its mismatch is 1,000, and so far off it can be twice that, and 1.
 const CLAIMS: [Claim; 7] = [
@@ -71,7 +71,7 @@ const CLAIMS: [Claim; 7] = [
 ];
 
 // A multiple of the unit matrix.
-fn multiple(alloc: Global, diagonal: i128) -> Result<Dense, AllocError> {
+fn multiple(alloc: Global, diagonal: i64) -> Result<Dense, AllocError> {
     Ok(Dense::from_cells(2, vec![in alloc; diagonal, 0, 0, diagonal]?))
 }
 

@@ -1,5 +1,5 @@
 use Rattle.std.proofs.Common.{◌≡◌, ◌∙◌, ◌*◌, ◌+◌, ℕ, nat_abs, arith, ap, sym, FitsSigned, rules}
-use Rattle.std.specs.Int.{w128}
+use Rattle.std.specs.Int.{w64, w128}
 use Rattle.std.proofs.lemmas.Int.{to_z-of_z}
 use Rattle.fd_enclosure.specs.fd_exact.States.{part}
 use Rattle.fd_enclosure.specs.Sound.{number_at}
@@ -18,7 +18,7 @@ loop-place-preserved c =
     let size : c.in-Some.size ≡ nat_abs (part zs j) = c.in-Some.ensures ∙ ap nat_abs (to_z-of_z w128 (part zs j) g) in
     let sum = front_more (λ j. number_at ws j * nat_abs (part zs j)) j 0 c.loop-place.total
     (c.loop-place.invariant.sum ∙ sym (zero_plus (short_total j ws zs))) in
-    let f : FitsSigned w128 (part fs j) = search rules in
+    let f : FitsSigned w64 (part fs j) = search rules in
     let next : c.plus_low-sizes.result ≡ c.loop-place.sizes + nat_abs (part fs j) * number_at rs j = simp to_z-of_z at c.plus_low-sizes.ensures.sum in
     let sizes = front_more (λ j. nat_abs (part fs j) * number_at rs j) j 0 c.loop-place.sizes
     (c.loop-place.invariant.sizes ∙ sym (zero_plus (sizes_total j fs rs))) in

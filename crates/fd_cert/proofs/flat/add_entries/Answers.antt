@@ -1,5 +1,5 @@
 use Rattle.std.proofs.Common.{◌≡◌, ◌*ℤ◌, length, get_or, arith, FitsSigned, rules}
-use Rattle.std.specs.Int.{w64, w128}
+use Rattle.std.specs.Int.{w64}
 use Rattle.std.proofs.lemmas.Int.{to_z-of_z}
 use Rattle.std.proofs.lemmas.List.Elements.{All-get_or}
 use Rattle.fd_enclosure.specs.fd_exact.States.{part}
@@ -17,7 +17,7 @@ loop-entry-preserved c =
     All-get_or (IsShort (length c.args.sums.now)) es k no_entry c.loop-entry-test.true c.requires.entries.each in
     let factor = c.requires.factors.small e.row short.row in
     let small = product_small (part fs e.row) e.units factor short.small in
-    let ff : FitsSigned w128 (part fs e.row) = search rules in
+    let ff : FitsSigned w64 (part fs e.row) = search rules in
     let fu : FitsSigned w64 e.units = search rules in
     let times : c.times.result ≡ (part fs e.row *ℤ e.units) = simp to_z-of_z at c.times.ensures.value in
     let few = c.requires.entries.few in

@@ -1,5 +1,5 @@
 use Rattle.std.proofs.Common.{◌≡◌, ◌<◌, ◌*ℤ◌, length, get_or, arith, sym, subst, FitsSigned, rules}
-use Rattle.std.specs.Int.{w64, w128}
+use Rattle.std.specs.Int.{w64}
 use Rattle.std.proofs.lemmas.Int.{to_z-of_z}
 use Rattle.std.proofs.lemmas.List.Elements.{All-get_or}
 use Rattle.fd_enclosure.specs.fd_exact.States.{part}
@@ -34,8 +34,8 @@ loop-entry-preserved c =
     All-get_or (IsShort (length c.args.sums.now)) es k no_entry c.loop-entry-test.true c.requires.entries.each in
     let small = product_small (part fs e.row) e.units (c.requires.first.small e.row short.row) short.small in
     let other_small = product_small (part gs e.row) e.units (c.requires.second.small e.row short.row) short.small in
-    let ff : FitsSigned w128 (part fs e.row) = search rules in
-    let fg : FitsSigned w128 (part gs e.row) = search rules in
+    let ff : FitsSigned w64 (part fs e.row) = search rules in
+    let fg : FitsSigned w64 (part gs e.row) = search rules in
     let fu : FitsSigned w64 e.units = search rules in
     let times : c.times-product.result ≡ (part fs e.row *ℤ e.units) = simp to_z-of_z at c.times-product.ensures.value in
     let other : c.times-other.result ≡ (part gs e.row *ℤ e.units) = simp to_z-of_z at c.times-other.ensures.value in

@@ -1,5 +1,5 @@
 use Rattle.std.proofs.Common.{◌≡◌, ◌∙◌, ◌+◌, ◌*◌, nat_abs, length, get_or, ap, sym, FitsSigned, rules}
-use Rattle.std.specs.Int.{w128}
+use Rattle.std.specs.Int.{w64}
 use Rattle.std.proofs.lemmas.Int.{to_z-of_z}
 use Rattle.std.proofs.lemmas.List.Elements.{All-get_or}
 use Rattle.fd_enclosure.specs.fd_exact.States.{part}
@@ -16,8 +16,8 @@ loop-high-preserved c =
     let h = get_or hs k no_high in
     let is : IsHigh (length fs) h = All-get_or (IsHigh (length fs)) hs k no_high c.loop-high-test.true c.requires.highs.each in
     let small = c.requires.factors.small h.place is.place in
-    let ff : FitsSigned w128 (part fs h.place) = search rules in
-    let size : c.entry_size.result ≡ nat_abs (part fs h.place) = simp to_z-of_z at c.entry_size.ensures in
+    let ff : FitsSigned w64 (part fs h.place) = search rules in
+    let size : c.unsigned_abs.result ≡ nat_abs (part fs h.place) = simp to_z-of_z at c.unsigned_abs.ensures.value in
     let sum : c.plus_short-total.result ≡ c.loop-high.total + h.times * nat_abs (part fs h.place) =
     c.plus_short-total.ensures.sum ∙ ap (λ n. c.loop-high.total + h.times * n) size in
     let more = list_n_more (λ h. h.times * nat_abs (part fs h.place)) hs k no_high c.loop-high-test.true in

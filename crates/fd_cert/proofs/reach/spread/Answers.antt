@@ -1,5 +1,5 @@
 use Rattle.std.proofs.Common.{◌≡◌, ◌∙◌, ℕ, suc, ◌+◌, ◌*◌, nat_abs, length, arith, ap, sym, FitsSigned, rules}
-use Rattle.std.specs.Int.{w128}
+use Rattle.std.specs.Int.{w64}
 use Rattle.std.proofs.lemmas.Int.{to_z-of_z}
 use Rattle.fd_enclosure.specs.fd_exact.States.{part}
 use Rattle.fd_enclosure.specs.fd_exact.SumLaws.{sum_n-same, sum_n-times}
@@ -10,7 +10,7 @@ use Rattle.fd_cert.proofs.reach.spread.Goals as goal
 pub loop-row-preserved : goal.loop-row-preserved
 loop-row-preserved c =
     let k = c.loop-row.row in
-    let f : FitsSigned w128 (part c.args.factors.now k) = search rules in
+    let f : FitsSigned w64 (part c.args.factors.now k) = search rules in
     let s : c.share-sum.result ≡ nat_abs (part c.args.factors.now k) * number_at c.args.mismatch.now k = simp to_z-of_z at c.share-sum.ensures.share in
     let next : suc k ≡ k + 1 = omega arith in
     record {

@@ -3,4 +3,4 @@ use Rattle.fd_certfile.specs.Readings.{zeros}
 use Rattle.fd_certfile.proofs.row.push_zeros.Given as goal
 
 abbrev pub invariant-loop-zero : goal.invariant-loop-zero
-invariant-loop-zero l = l.cells.items ≡ l.fn.cells.items ++ zeros l._zero
+invariant-loop-zero l = l.cells ≡ l.fn.cells ++ zeros l._zero

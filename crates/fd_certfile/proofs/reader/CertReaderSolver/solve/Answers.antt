@@ -11,8 +11,8 @@ use Rattle.fd_certfile.proofs.reader.CertReaderSolver.solve.Goals as goal
 pub returns-in-Err-clause-gives : goal.returns-in-Err-clause-gives
 returns-in-Err-clause-gives c = gives_refused c.args.net.now c.args.self.now c.size-size.result c.in-Err.fault c.size-size.ensures.size c.in-Err.ensures
 
-pub claimed-requires : goal.claimed-requires
-claimed-requires c = ahead_long c.args.self.now c.size-size.result c.in-Ok.ahead c.in-Ok.ensures
+pub claimed-requires-clause-long : goal.claimed-requires-clause-long
+claimed-requires-clause-long c = ahead_long c.args.self.now c.size-size.result c.in-Ok.ahead c.in-Ok.ensures
 
 pub returns-in-Ok-2-clause-gives : goal.returns-in-Ok-2-clause-gives
 returns-in-Ok-2-clause-gives c =
@@ -24,9 +24,9 @@ returns-in-Ok-2-clause-gives c =
     let parts = c.deref.result.now in
     let next : next_of r v.size ≡ Ok (h.block, c.pass.new.self) =
     ap (next_of r) (sym c.size-size.ensures.size) ∙ h.next ∙ ap (λ (w : ReaderView). Ok (h.block, w)) (c.in_ok-pass-in-Ok-2.ensures h.block _ h.next) in
-    let read = read_is v parts (square n x.cells.items) h.block (ap (map part) c.deref.ensures.value ∙ h.parts) (ahead_square r n x h) in
+    let read = read_is v parts (square n x.cells) h.block (ap (map part) c.deref.ensures.value ∙ h.parts) (ahead_square r n x h) in
     let told = subst (IsBoxed v
-    (boxed_claim v (map centre_in parts) (map radius_in parts) (map mismatch_in parts) (square n x.cells.items)))
+    (boxed_claim v (map centre_in parts) (map radius_in parts) (map mismatch_in parts) (square n x.cells)))
     c.in-Ok-2.is c.in_ok-certified.ensures.first in
     let whole : first_unsound v (claim_read v h.block) ≡ None = sym (ap (first_unsound v) read) ∙ told.0 in
     record {
@@ -44,9 +44,9 @@ returns-clause-gives c =
     let h = c.in-Ok.ensures in
     let parts = c.deref.result.now in
     let next = ap (next_of r) (sym c.size-size.ensures.size) ∙ h.next in
-    let read = read_is v parts (square n x.cells.items) h.block (ap (map part) c.deref.ensures.value ∙ h.parts) (ahead_square r n x h) in
+    let read = read_is v parts (square n x.cells) h.block (ap (map part) c.deref.ensures.value ∙ h.parts) (ahead_square r n x h) in
     let told = subst (IsBoxed v (boxed_claim v (map centre_in parts) (map radius_in parts) (map mismatch_in parts)
-    (square n x.cells.items))) c.in-Err-2.is c.in_ok-certified.ensures.first in (
+    (square n x.cells))) c.in-Err-2.is c.in_ok-certified.ensures.first in (
       solved_broken v r h.block _ next c.in-Err-2.broken (sym (ap (first_unsound v) read) ∙ told)
           ∙ ap (λ (k : ℕ). Err (k + 1 + c.in-Err-2.broken.place, c.in-Err-2.broken.rule)) (sym (ap (λ (q : ReaderView). q.line) c.self.view_is))
           ∙ ap (λ (k : ℕ). Err (c.self.inside.line + 1 + k, c.in-Err-2.broken.rule)) (sym c.from.ensures),

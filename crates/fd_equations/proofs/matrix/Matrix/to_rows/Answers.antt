@@ -2,7 +2,7 @@ use Rattle.std.proofs.Common.{◌≡◌, ◌∙◌, length, pos, All, ap, sym, s
 use Rattle.fd_mat.specs.fd_exact.States.{table}
 use Rattle.fd_mat.specs.fd_exact.Tables.{length-table}
 use Rattle.fd_pattern.specs.Patterns.{IsInside, IsRising}
-use Rattle.fd_equations.proofs.WrittenOut.{out_entries}
+use Rattle.fd_equations.proofs.WrittenOut.{out_entries, out_small}
 use Rattle.fd_equations.proofs.matrix.Matrix.to_rows.Goals as goal
 
 pub put-requires-clause-zero : goal.put-requires-clause-zero
@@ -20,10 +20,18 @@ put-requires-clause-inside c =
 pub put-requires-clause-rising : goal.put-requires-clause-rising
 put-requires-clause-rising c = subst IsRising (sym c.places.ensures.value) c.places.ensures.sound.rising
 
-pub returns : goal.returns
-returns c = λ at is.
+pub returns-clause-entries : goal.returns-clause-entries
+returns-clause-entries c = λ at is.
     let put = c.in_ok-put.ensures in
     let n = ap length c.zero-rows.ensures ∙ length-table c.size.result c.size.result (λ _ _. pos 0) ∙ c.size.ensures.size in
     out_entries c.args.self.now c.self.inside.pattern.now c.self.inside.cells.items c.deref.result.now
+    c.places.result.now put.at (length c.zero-rows.result) c.self.view_is c.deref.ensures.value
+    c.places.ensures.value n (record { here = put.here; none = put.none }) c.put.new.rows put.rows_are at is
+
+pub returns-clause-small : goal.returns-clause-small
+returns-clause-small c = λ at is.
+    let put = c.in_ok-put.ensures in
+    let n = ap length c.zero-rows.ensures ∙ length-table c.size.result c.size.result (λ _ _. pos 0) ∙ c.size.ensures.size in
+    out_small c.args.self.now c.self.inside.pattern.now c.self.inside.cells.items c.deref.result.now
     c.places.result.now put.at (length c.zero-rows.result) c.self.view_is c.deref.ensures.value
     c.places.ensures.value n (record { here = put.here; none = put.none }) c.put.new.rows put.rows_are at is

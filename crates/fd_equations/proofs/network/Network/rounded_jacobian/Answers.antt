@@ -11,15 +11,15 @@ returns-clause-entries c =
     let v = c.args.self.now in
     let m = c.in_ok-jacobian.field-0 in
     let is = c.in_ok-jacobian.ensures in
-    IfOk-weaker c.to_dense-2.result _ _
+    IfOk-weaker c.to_rows-2.result _ _
     (λ d h. h (jacobian_amount v c.args.x.now) (own_size v.size m (jacobian_amount v c.args.x.now) is)
     ∙ ap (λ n. table n n (jacobian_entry v c.args.x.now)) is.size)
-    c.to_dense-2.ensures.entries
+    c.to_rows-2.ensures.entries
 
 pub returns-clause-small : goal.returns-clause-small
 returns-clause-small c =
     let v = c.args.self.now in
-    IfOk-weaker c.to_dense-2.result _ _ (λ d h.
+    IfOk-weaker c.to_rows-2.result _ _ (λ d h.
     h (jacobian_amount v c.args.x.now)
     (own_size v.size c.in_ok-jacobian.field-0 (jacobian_amount v c.args.x.now) c.in_ok-jacobian.ensures))
-    c.to_dense-2.ensures.small
+    c.to_rows-2.ensures.small

@@ -10,13 +10,13 @@ pub returns-clause-entries : goal.returns-clause-entries
 returns-clause-entries c =
     let v = c.args.self.now in
     let is = c.in_ok-start.ensures in
-    IfOk-weaker c.to_dense-2.result _ _
+    IfOk-weaker c.to_rows-2.result _ _
     (λ d h. h (start_amount v) (own_size v.size c.in_ok-start.field-0 (start_amount v) is) ∙ ap (λ n. table n n (start_entry v)) is.size)
-    c.to_dense-2.ensures.entries
+    c.to_rows-2.ensures.entries
 
 pub returns-clause-small : goal.returns-clause-small
 returns-clause-small c =
     let v = c.args.self.now in
-    IfOk-weaker c.to_dense-2.result _ _
+    IfOk-weaker c.to_rows-2.result _ _
     (λ d h. h (start_amount v) (own_size v.size c.in_ok-start.field-0 (start_amount v) c.in_ok-start.ensures))
-    c.to_dense-2.ensures.small
+    c.to_rows-2.ensures.small
