@@ -1,7 +1,9 @@
 #!/usr/bin/env bash
 # Counts the instructions of the built program, with its start, by callgrind:
-# - on a day of 24 hours of the 13-node feeder with its regulators, each load with a shape, for each round, beside one
-#   snapshot of it, and how much memory 2 and 48 hours take;
+# - on a day of 24 hours of the 13-node feeder with its regulators, each load with a shape of 1, for each round, beside
+#   one snapshot of it, and how much memory 2 and 48 hours take;
+# - on a day of it whose loads follow a shape of 24 points that all differ, and on a year of it, beside the day, with
+#   the memory of both;
 # - on many banks with controls, beside the same with controls off.
 # Counts don't change from run to run. Needs `valgrind`, GNU `time` and the built program.
 set -eu
@@ -35,6 +37,12 @@ hours, all_rounds = count("day", day + "Solve mode=daily\n")
 ratio = hours / all_rounds / (snapshot / rounds)
 print(f"13-node feeder: a day {hours} instructions in {all_rounds} rounds, a snapshot {snapshot} in {rounds}, a round of the day {ratio:.3f} of one of the snapshot")
 print(f"memory: 2 hours {memory('two', day + 'Solve mode=daily number=2')} KB, 48 hours {memory('many', day + 'Solve mode=daily number=48')} KB")
+points = "0.60 0.58 0.57 0.56 0.55 0.62 0.70 0.78 0.82 0.85 0.87 0.88 0.89 0.90 0.91 0.93 0.96 1.00 0.99 0.97 0.94 0.86 0.76 0.67"
+shaped = before + f"New Loadshape.s npts=24 mult=({points})\n" + "".join(f"Load.{load}.daily=s\n" for load in loads)
+one, in_one = count("shaped", shaped + "Solve mode=daily\n")
+year, in_year = count("year", shaped + "Solve mode=daily number=8760\n")
+print(f"a day by a shape of 24 points {one} instructions in {in_one} rounds, a year {year} in {in_year}, {year / one:.2f} days")
+print(f"memory: the day {memory('shaped', shaped + 'Solve mode=daily')} KB, the year {memory('year', shaped + 'Solve mode=daily number=8760')} KB")
 for n in (1000, 2000, 4000):
     lines = ["New Circuit.c basekv=1 phases=1 r1=0 x1=0.5 r0=0 x0=0.5", "New Line.l phases=1 bus1=sourcebus.1 bus2=b.1 r1=0 x1=0.5 r0=0 x0=0.5"]
     for i in range(n):

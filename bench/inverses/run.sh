@@ -1,6 +1,6 @@
 #!/usr/bin/env bash
 # Counts the inverses that the built program makes on a day of 24 hours whose powers repeat every two hours and whose bank
-# switches in each but the first: 47 rounds at 4 start matrices, and so one inverse a round and 4 besides. A program that is
+# switches in each but the first: 47 rounds at 4 networks, and so 8 inverses, two for each network. A program that is
 # named in its place is counted in place of the built one. Counts don't change from run to run. Needs `valgrind`.
 set -eu
 here=$(cd "$(dirname "$0")" && pwd)

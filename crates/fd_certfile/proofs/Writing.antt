@@ -47,22 +47,22 @@ module _ (size number hour round : ℕ) (made : Round) where
 
   pub lines_together : (first parts rows acts : List (List ℕ))
       → first ≡ line_bytes (solution (pos number) (pos hour) (pos round) (pos size)) ∷ []
-      → parts ≡ first ++ list_of size (λ i. line_bytes (part_line i (part_in (claim_in made.certified) i)))
-      → length made.certified.inverse ≡ size
-      → rows ≡ parts ++ list_of (length made.certified.inverse) (λ i. line_bytes (row_line Sparse i (row_of made.certified.inverse i)))
+      → parts ≡ first ++ list_of size (λ i. line_bytes (part_line i (part_in (claim_in made.certified.value) i)))
+      → length made.certified.value.inverse ≡ size
+      → rows ≡ parts ++ list_of (length made.certified.value.inverse) (λ i. line_bytes (row_line Sparse i (row_of made.certified.value.inverse i)))
       → acts ≡ rows ++ map line_bytes (map act_line (map act_of made.acts.items))
       → acts ≡ map line_bytes (block_lines Sparse (block_of size number hour round made))
   lines_together first parts rows acts f p l r a =
-      let ps = numbered_lines part_line 0 (list_of size (part_in (claim_in made.certified))) in
-      let rs = numbered_lines (row_line Sparse) 0 made.certified.inverse in
+      let ps = numbered_lines part_line 0 (list_of size (part_in (claim_in made.certified.value))) in
+      let rs = numbered_lines (row_line Sparse) 0 made.certified.value.inverse in
       let s = line_bytes (solution (pos number) (pos hour) (pos round) (pos size)) in
       let bs = map line_bytes (map act_line (map act_of made.acts.items)) in
       let p' : parts ≡ s ∷ map line_bytes ps = p
-      ∙ ap (λ t. t ++ list_of size (λ i. line_bytes (part_line i (part_in (claim_in made.certified) i)))) f
-      ∙ ap (λ t. s ∷ t) (sym (numbered_list part_line (part_in (claim_in made.certified)) size)) in
+      ∙ ap (λ t. t ++ list_of size (λ i. line_bytes (part_line i (part_in (claim_in made.certified.value) i)))) f
+      ∙ ap (λ t. s ∷ t) (sym (numbered_list part_line (part_in (claim_in made.certified.value)) size)) in
       let r' : rows ≡ (s ∷ map line_bytes ps) ++ map line_bytes rs = r
-      ∙ ap (λ t. t ++ list_of (length made.certified.inverse) (λ i. line_bytes (row_line Sparse i (row_of made.certified.inverse i)))) p'
-      ∙ ap (λ t. (s ∷ map line_bytes ps) ++ t) (sym (numbered_rows made.certified.inverse)) in
+      ∙ ap (λ t. t ++ list_of (length made.certified.value.inverse) (λ i. line_bytes (row_line Sparse i (row_of made.certified.value.inverse i)))) p'
+      ∙ ap (λ t. (s ∷ map line_bytes ps) ++ t) (sym (numbered_rows made.certified.value.inverse)) in
       a ∙ ap (λ t. t ++ bs) r'
       ∙ append_assoc (s ∷ map line_bytes ps) (map line_bytes rs) bs
       ∙ ap (λ t. (s ∷ map line_bytes ps) ++ t) (sym (map-append line_bytes rs (map act_line (map act_of made.acts.items))))
@@ -86,33 +86,33 @@ all_map P f [] h = tt
 all_map P f (x ∷ xs) h = (h.0, all_map P f xs h.1)
 
 module _ (size number hour round : ℕ) (made : Round) (is : IsRoundOf size made)
-    (wide : (i : ℕ) → i < length made.certified.inverse → length (row_of made.certified.inverse i) ≡ length made.certified.inverse)
+    (wide : (i : ℕ) → i < length made.certified.value.inverse → length (row_of made.certified.value.inverse i) ≡ length made.certified.value.inverse)
   where
     pub sized : IsSized (block_of size number hour round made)
     sized = record {
-      parts = length-list_of size (part_in (claim_in made.certified));
+      parts = length-list_of size (part_in (claim_in made.certified.value));
       rows = is.inverse.long;
-      entries = all_by (λ r. length r ≡ size) [] made.certified.inverse (λ i l. wide i l ∙ is.inverse.long);
+      entries = all_by (λ r. length r ≡ size) [] made.certified.value.inverse (λ i l. wide i l ∙ is.inverse.long);
     }
 
     number_is : (z : ℤ) (n : ℕ) → nat_abs z ≤ n → n < 2 ^ 127 → IsNumber z
     number_is (pos k) n h l = omega (arith, h, l)
     number_is (negsuc k) n h l = omega (arith, h, l)
 
-    row_numbers : (i : ℕ) → i < length made.certified.inverse
-        → AllByRecursion IsNumber (row_of made.certified.inverse i)
-    row_numbers i l = all_by IsNumber (pos 0) (row_of made.certified.inverse i)
-        (λ j m. number_is (entry made.certified.inverse i j) (2 ^ 56) (is.inverse.small i j l (omega (arith, m, wide i l))) (omega arith))
+    row_numbers : (i : ℕ) → i < length made.certified.value.inverse
+        → AllByRecursion IsNumber (row_of made.certified.value.inverse i)
+    row_numbers i l = all_by IsNumber (pos 0) (row_of made.certified.value.inverse i)
+        (λ j m. number_is (entry made.certified.value.inverse i j) (2 ^ 56) (is.inverse.small i j l (omega (arith, m, wide i l))) (omega arith))
 
     pub writable : number < 2 ^ 32 → hour < 2 ^ 32 → round < 2 ^ 32 → size < 2 ^ 32
         → All (λ (a : Made). AreNumbers (act_of a)) made.acts.items → IsWritable (block_of size number hour round made)
     writable n h r s acts = record {
       due = (omega (arith, n), (omega (arith, h), (omega (arith, r), (omega (arith, s), tt))));
-      parts = all_of (λ (p : Part). AllByRecursion IsNumber (p.centre ∷ p.radius ∷ p.mismatch ∷ [])) (part_in (claim_in made.certified)) 0 size (λ i l. (
-        number_is (part made.certified.ball.centre.items i) (2 ^ 40) (is.centre i (omega (arith, l))) (omega arith),
+      parts = all_of (λ (p : Part). AllByRecursion IsNumber (p.centre ∷ p.radius ∷ p.mismatch ∷ [])) (part_in (claim_in made.certified.value)) 0 size (λ i l. (
+        number_is (part made.certified.value.ball.centre.items i) (2 ^ 40) (is.centre i (omega (arith, l))) (omega arith),
         (omega (arith, is.radii i (omega (arith, l))), (omega (arith, is.mismatches i (omega (arith, l))), tt)),
       ));
-      inverse = all_by (AllByRecursion IsNumber) [] made.certified.inverse row_numbers;
+      inverse = all_by (AllByRecursion IsNumber) [] made.certified.value.inverse row_numbers;
       acts = all_map AreNumbers act_of made.acts.items (recursion_from_All (λ (a : Made). AreNumbers (act_of a)) made.acts.items acts);
     }
 

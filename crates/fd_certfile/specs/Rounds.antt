@@ -36,8 +36,8 @@ block_of size number hour round made = record {
   hour = pos hour;
   round = pos round;
   size = pos size;
-  parts = list_of size (part_in (claim_in made.certified));
-  inverse = made.certified.inverse;
+  parts = list_of size (part_in (claim_in made.certified.value));
+  inverse = made.certified.value.inverse;
   acts = map act_of made.acts.items;
 }
 
@@ -69,4 +69,4 @@ pub record IsClaimOf (size : ℕ) (m : Claim) : Type 0 where
 
 -- a round of such a network
 abbrev pub IsRoundOf : ℕ → Round → Type 0
-IsRoundOf size made = IsClaimOf size (claim_in made.certified)
+IsRoundOf size made = IsClaimOf size (claim_in made.certified.value)

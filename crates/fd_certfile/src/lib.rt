@@ -74,5 +74,5 @@ pub use fd_outside::{Found, LibFault, Library, Record, Sink, SinkFault, emit};
 pub use fd_settle::{
     Act, Ball, CapProbe, CapState, CertFault, Certified, Dense, Entry, Limits, Measured, Network,
     NetworkRows, Point, Queue, RegProbe, RegState, Round, Rows, Rule, Solver, Verdict,
-    bank_verdict, boxed, certify, ready, regulator_verdict,
+    bank_verdict, boxed, certify, ready, regulator_verdict, shared,
 };

@@ -18,9 +18,10 @@ use crate::fault::{CertFileFault, Stop};
 use crate::line::read_line;
 use crate::row::is_place;
 use crate::version::{Version, version_named};
-use fd_settle::{Act, Certified, Limits, NetworkRows, Rule, Solver};
+use fd_settle::{Act, Certified, Limits, NetworkRows, Rule, Solver, shared};
 use std::alloc::{AllocError, Global};
 use std::marker::Model;
+use std::rc::Rc;
 
 /// What a block claims: of each unknown and its row in order, and the entries of an inverse, a row for each unknown and a
 /// column for each row, row by row, in units of 2^-40. Nothing is said of their range.
@@ -267,7 +268,7 @@ impl<'a> Solver for CertReader<'a> {
         alloc: Global,
         net: &NetworkRows,
         _limits: &Limits,
-    ) -> Result<Certified, CertFileFault> {
+    ) -> Result<Rc<Certified>, CertFileFault> {
         let size = net.size();
         let ahead = match self.ahead(alloc, size) {
             Ok(ahead) => ahead,
@@ -276,8 +277,9 @@ impl<'a> Solver for CertReader<'a> {
         let cells = ahead.cells;
         match claimed(alloc, net, size, &ahead.parts, cells)? {
             Ok(certified) => {
+                let state = shared(alloc, certified)?;
                 self.pass(size, ahead.acts, ahead.rest, ahead.lines)?;
-                Ok(certified)
+                Ok(state)
             }
             Err(broken) => Err(CertFileFault::Refused {
                 line: self.line + 1 + u64::from(broken.place),

@@ -125,7 +125,7 @@ pub fn write_block(
     ensures read { IfOk result (λ rs. AreReadAs (pieces_of rs.items) (block_of net.now.rows.size number hour round made.now)) }
 {
     let size = net.size();
-    let certified = &made.certified;
+    let certified = made.certified.as_ref();
     let mut records = Vec::new(alloc);
     records.push(solution_record(alloc, number, hour, round, size)?)?;
     push_parts(alloc, &mut records, size, certified)?;

@@ -124,7 +124,7 @@ module _ (law : CertificateLaw) (given_law : GivenLaw) (solving : SolvingLaw due
   pub given_count : (w : ReaderView) → Calls w → length w.given ≡ length r.given + length rounds
   given_count w calls =
       let k = way w calls in
-      omega (arith, ap length k.grown, length-append r.given k.blocks, k.long, length-map rounds (λ (q : Round). claim_in q.certified))
+      omega (arith, ap length k.grown, length-append r.given k.blocks, k.long, length-map rounds (λ (q : Round). claim_in q.certified.value))
 
   all_due : map acts_made rounds ≡ acts_due_in made.rounds
   all_due = made_due rounds ∙ ap acts_due_in acts

@@ -7,6 +7,7 @@ pub mod Walks
 pub mod WalkLaws
 pub mod Slopes
 pub mod Weights
+pub mod Copies
 pub mod Enclosure
 pub use Rattle.fd_mat.specs.fd_exact as fd_exact
 pub use Rattle.fd_mat.specs as fd_mat

@@ -15,11 +15,13 @@
 // (contributions in place of others), `sparse` and `matrix` over them, `laws` of walks, `constants` (their sums by row),
 // `rows` (the linear rows in intervals), `terminals` (the voltage of a part load, and its places in a row),
 // `load_intervals`, `load_rows` and `load_slopes` (what part loads add to the intervals and to the rounded residual, and
-// their slopes), `weights`, `network` over them, and `point` (a state with its inverse).
+// their slopes), `weights`, `network` over them, `copy` (what a network consists of, kept to be compared), and `point` (a state with
+// its inverse).
 #![tactic(auto)]
 
 mod cells;
 mod constants;
+mod copy;
 mod exchange;
 mod laws;
 mod load_cells;
@@ -35,6 +37,7 @@ mod terminals;
 mod weights;
 
 pub use cells::Cell;
+pub use copy::NetworkCopy;
 pub use laws::{count_law, walk_law};
 pub use matrix::Matrix;
 pub use network::Network;

@@ -114,6 +114,30 @@ impl<'a> Network<'a> {
         self.rows.loads()
     }
 
+    // Its constants in order, not summed.
+    pub(crate) fn summands(&self) -> &[Constant]
+        ensures { result.now ≡ self.now.stamp.constants }
+    {
+        self.constants
+    }
+
+    // How many unknowns of each kind it has.
+    pub(crate) fn layout(&self) -> Layout
+        ensures nodes { result.nodes ≡ self.now.nodes }
+        ensures complexes { result.nodes + result.branches ≡ self.now.complexes }
+        ensures magnitudes { result.magnitudes ≡ self.now.magnitudes }
+        ensures size { 2 * (result.nodes + result.branches) + result.magnitudes ≡ self.now.size }
+    {
+        self.layout
+    }
+
+    // What is drawn, as `new` has it.
+    pub(crate) fn draw(&self) -> u128
+        ensures { result ≡ self.now.stamp.draw }
+    {
+        self.draw
+    }
+
     /// The residual of each row at the point x, in intervals of whole micro-units. Each holds the exact residual, and its ends are at
     /// most the residual's size and two more for each contribution to the row and each load current and magnitude row in it; none is ALL.
     /// They are at most the residual's size and 4 n + 4 with n contributions and load currents.

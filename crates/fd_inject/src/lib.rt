@@ -23,5 +23,5 @@ pub use kept::{Kept, KeptPair, solve, solve_kept};
 pub use limits::Limits;
 
 // Handed on from the crates below.
-pub use fd_equations::{Dense, Network as NetworkRows, Point, Rows, SparseRows};
+pub use fd_equations::{Dense, Network as NetworkRows, NetworkCopy, Point, Rows, SparseRows};
 pub use fd_inverse::{Stop, TapPair};

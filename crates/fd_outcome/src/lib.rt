@@ -22,7 +22,7 @@ pub use laws::{Work, cut_law, due_law, history_law, names_law, read_law, status_
 // Handed on from the crates below.
 pub use fd_certfile::{
     Act, CertFileFault, Found, LibFault, Library, Record, Round, Sink, SinkFault, emit, end_record,
-    header_record, upgrade, write_block,
+    header_record, shared, upgrade, write_block,
 };
 pub use fd_report::{
     Cause, Certified, ControlMode, Entry, Fault, Ladder, Network, NetworkRows, Position, Probe,

@@ -45,7 +45,7 @@ end_with f (Some tried) = without_certificate (round_of (claim_in tried) []) f
 -- ---- as the code made it
 
 abbrev pub round_in : Made → Round
-round_in r = round_of (claim_in r.certified) (map seen r.acts.items)
+round_in r = round_of (claim_in r.certified.value) (map seen r.acts.items)
 
 abbrev pub rounds_in : List Made → List Round
 rounds_in rounds = map round_in rounds

@@ -12,7 +12,7 @@ ghost use Rattle.fd_pages.specs.Hours.{IsSettleAt, IsTriedOf, last_texts, round_
 
 use crate::page::{Page, SolvedHour};
 use fd_bases::Circuit;
-use fd_outcome::{Certified, Entry, Record, Round, end_record, header_record, write_block};
+use fd_outcome::{Certified, Entry, Record, Round, end_record, header_record, shared, write_block};
 use fd_settings::Positions;
 use std::alloc::{AllocError, Global};
 
@@ -72,7 +72,7 @@ fn add_tried(
         ++ block_texts (block_in s (length made.now.rounds.now) (round_of (claim_in tried) []))) }
 {
     let round = Round {
-        certified: tried,
+        certified: shared(alloc, tried)?,
         acts: Vec::new(alloc),
     };
     add_block(alloc, made, made.rounds.len() as u32, &round, into)

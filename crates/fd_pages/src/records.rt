@@ -151,7 +151,7 @@ fn add_round(
     ensures { (s : Settle) → IsSettleAt circuit.now number hour s →
         OnOk result (pieces_of into.new.items ≡ pieces_of into.old.items ++ lines_of (round_rows s place (round_in round.now))) }
 {
-    let certified = &round.certified;
+    let certified = round.certified.as_ref();
     let solution = Solution::new(
         &certified.ball.centre,
         &certified.ball.radius,

@@ -259,8 +259,8 @@ computed_by {V} limits p v m (r ∷ rs) w ending a h t = (
   h.1.0,
   (
     h.1.1.0,
-    follows_by limits p rs (map seen r.acts.items) ending (outcome_of p.setup m (p.look m.at (claim_in r.certified)))
-        (round_ends p.setup m (p.look m.at (claim_in r.certified))) a t (λ k is b q.
+    follows_by limits p rs (map seen r.acts.items) ending (outcome_of p.setup m (p.look m.at (claim_in r.certified.value)))
+        (round_ends p.setup m (p.look m.at (claim_in r.certified.value))) a t (λ k is b q.
         computed_by limits p h.0 k rs w ending b (subst (λ (n : Machine). AreCalls {V = V} {F = ComputeFault}
         (λ u net answer x. ComputeGives limits net answer) p h.0 n (claims_in rs) w) is h.1.1.1) q),
   ),

@@ -128,9 +128,9 @@ each_more P p m (d ∷ ds) c h o k =
     let rest = rest_of p m d ds o in
     (h.0, each_more P p (after_round p m d) ds c h.1 rest.open' (subst (λ (n : Machine). P n.at c) rest.machine k))
 
-claims_more : (rs : List Round) (r : Round) → claims_in (rs ++ r ∷ []) ≡ claims_in rs ++ claim_in r.certified ∷ []
+claims_more : (rs : List Round) (r : Round) → claims_in (rs ++ r ∷ []) ≡ claims_in rs ++ claim_in r.certified.value ∷ []
 claims_more [] r = refl
-claims_more (q ∷ qs) r = ap (λ (cs : List Claim). claim_in q.certified ∷ cs) (claims_more qs r)
+claims_more (q ∷ qs) r = ap (λ (cs : List Claim). claim_in q.certified.value ∷ cs) (claims_more qs r)
 
 acts_more : (rs : List Round) (r : Round) → acts_in (rs ++ r ∷ []) ≡ acts_in rs ++ map seen r.acts.items ∷ []
 acts_more [] r = refl
@@ -141,11 +141,11 @@ pub round_more : {V F : Type 0} (gives : V → NetworkView → Result Claim F �
     (P : Positions → Claim → Type 0) (p : Plant) (v : V) (m : Machine) (rs : List Round) (n : Machine) (w : V)
     (r : Round) (o : Outcome) (u : V)
     → IsStanding gives P p v m rs Open n w → p.blame n.at ≡ None
-    → gives w (p.network n.at) (Ok (claim_in r.certified)) u → P n.at (claim_in r.certified)
-    → outcome_of p.setup n (p.look n.at (claim_in r.certified)) ≡ o → map seen r.acts.items ≡ acts_of o
+    → gives w (p.network n.at) (Ok (claim_in r.certified.value)) u → P n.at (claim_in r.certified.value)
+    → outcome_of p.setup n (p.look n.at (claim_in r.certified.value)) ≡ o → map seen r.acts.items ≡ acts_of o
     → IsStanding gives P p v m (rs ++ r ∷ []) (end_of o) (left_by o) u
 round_more gives P p v m rs n w r o u h b k s e a =
-    let c = claim_in r.certified in
+    let c = claim_in r.certified.value in
     let is_open : (settled p m rs).end ≡ Open = ap (λ (t : Settle). t.end) h.is_settle in
     let machine : n ≡ (settled p m rs).machine = sym (ap (λ (t : Settle). t.machine) h.is_settle) in
     let claims : claims_in rs ++ c ∷ [] ≡ claims_in (rs ++ r ∷ []) = sym (claims_more rs r) in

@@ -16,3 +16,4 @@ pub mod Keeping
 pub mod KeptRounds
 pub mod Grounds
 pub mod Ended
+pub mod Storing

@@ -188,6 +188,13 @@ pub record IsStep (at : CodePositions) (clock : Clock) (controls : Controls) (m 
   pub closed : length to.closed ≡ length at.closed
   pub time : then'.now ≡ clock.now
 
+-- the same of a certified state that is the same
+pub same_step : (at : CodePositions) (clock : Clock) (controls : Controls) (m n : Certified) (q : Progress) (made : List Made)
+    (to : CodePositions) (then' : Clock) (after : Controls) → m ≡ n → IsStep at clock controls m q made to then' after
+    → IsStep at clock controls n q made to then' after
+same_step at clock controls m n q made to then' after e s =
+    subst (λ (x : Certified). IsStep at clock controls x q made to then' after) e s
+
 pub stepped_positions : (c : CircuitView) (powers : List LoadPower) (n : ℕ) (at to : CodePositions) (clock : Clock) (controls : Controls)
     → ArePositions c powers (positions_in at) → AreControls n to clock controls → length to.taps ≡ length at.taps
     → length to.closed ≡ length at.closed →
@@ -332,26 +339,26 @@ module _ {V F : Type 0} (gives : V → NetworkView → Result Claim F → V → 
   pub underway_more : IsNetwork net.rows
       → (view : NetworkView) (r : Round) (u : V) (new : List Round) (q : Progress) (to : CodePositions)
       (then' : Clock) (after : Controls)
-      → view ≡ net.rows → gives w view (Ok (claim_in r.certified)) u → IsSound view (claim_in r.certified)
-      → new ≡ mid ++ r ∷ [] → IsStep at clock controls r.certified q r.acts.items to then' after
+      → view ≡ net.rows → gives w view (Ok (claim_in r.certified.value)) u → IsSound view (claim_in r.certified.value)
+      → new ≡ mid ++ r ∷ [] → IsStep at clock controls r.certified.value q r.acts.items to then' after
       → IsUnderway gives c powers.loads v m old new (end_by q) to then' after u
   underway_more valid view r u new q to then' after is gave sound more s =
       let n = machine_of at clock controls in
       let next = machine_of to then' after in
       let same : view ≡ network_at c powers.loads (positions_in at) = is ∙ here.rows in
-      let own : IsSound (network_at c powers.loads (positions_in at)) (claim_in r.certified) =
-      subst (λ (x : NetworkView). IsSound x (claim_in r.certified)) same sound in
-      let outcome : outcome_of (setup_of c) n (look_over (controls_in c) n.at (claim_in r.certified)) ≡ shown q (map seen r.acts.items) next =
-      same_round c controls.timing (probes_in controls) controls.limit n (claim_in r.certified) (shown q (map seen r.acts.items) next) h.work.timing h.work.probes h.work.limit s.round in
+      let own : IsSound (network_at c powers.loads (positions_in at)) (claim_in r.certified.value) =
+      subst (λ (x : NetworkView). IsSound x (claim_in r.certified.value)) same sound in
+      let outcome : outcome_of (setup_of c) n (look_over (controls_in c) n.at (claim_in r.certified.value)) ≡ shown q (map seen r.acts.items) next =
+      same_round c controls.timing (probes_in controls) controls.limit n (claim_in r.certified.value) (shown q (map seen r.acts.items) next) h.work.timing h.work.probes h.work.limit s.round in
       let stands = round_more gives (IsSoundAt c powers.loads) (plant_of c powers.loads) v m
       (appended old mid) n w r (shown q (map seen r.acts.items) next) u h.stands here.in_range
-      (subst (λ (x : NetworkView). gives w x (Ok (claim_in r.certified)) u) same gave) (record {
+      (subst (λ (x : NetworkView). gives w x (Ok (claim_in r.certified.value)) u) same gave) (record {
         positions = h.positions;
         agrees = here.agrees;
         network = subst IsNetwork here.rows valid;
         sound = own;
       }) outcome (acts_shown q r.acts.items next s.acts) in
-      let long = centre_long c powers.loads (positions_in at) view r.certified same sound in
+      let long = centre_long c powers.loads (positions_in at) view r.certified.value same sound in
       let keeps = subst (λ k. AreControls k to then' after) long s.keeps in
       let positions = stepped_positions c powers.loads (size_of (layout_of c.elements)) at to then' after h.positions keeps s.taps s.closed in
       record {

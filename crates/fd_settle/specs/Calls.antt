@@ -1,5 +1,7 @@
 -- The solver's calls in a settle.
 use Rattle.std.specs.Prelude.{◌≡◌, List, [], ◌∷◌, None, Result, Ok, Err}
+use Rattle.std.specs.declared.alloc.Global.{Global}
+use Rattle.std.specs.declared.rc.Rc.{Rc}
 use Rattle.fd_inject.specs.fd_pattern.Views.{NetworkView}
 use Rattle.fd_cert.specs.fd_enclosure.Sound.{Claim}
 use Rattle.fd_cert.specs.Claims.{claim_in}
@@ -10,8 +12,8 @@ use Rattle.fd_settle.specs.Plant.{Plant}
 use Rattle.fd_settle.specs.Rounds.{after_round, claims_in, settled}
 
 -- an answer, by what its certified state claims
-abbrev pub answer_in : {F : Type 0} → Result Certified F → Result Claim F
-answer_in (Ok m) = Ok (claim_in m)
+abbrev pub answer_in : {F : Type 0} → Result (Rc Certified Global) F → Result Claim F
+answer_in (Ok m) = Ok (claim_in m.value)
 answer_in (Err f) = Err f
 
 -- The solver answered these claims in order, each call made on the solver that the call before left, with the network

@@ -62,7 +62,7 @@ IsComputedFrom limits p m (r ∷ rest) ending n =
 
 -- the rounds that the code made
 abbrev pub computed_in : List Round → List (Claim × List Act)
-computed_in rounds = map (λ r. (claim_in r.certified, map seen r.acts.items)) rounds
+computed_in rounds = map (λ r. (claim_in r.certified.value, map seen r.acts.items)) rounds
 
 -- ---- what an answer tells of the ending; want of memory tells nothing
 

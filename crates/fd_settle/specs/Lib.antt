@@ -14,6 +14,7 @@ pub mod Compute
 pub mod Start
 pub mod Controls
 pub mod Computed
+pub mod KeptStates
 pub mod Acting
 pub use Rattle.fd_inject.specs.fd_exact as fd_exact
 pub use Rattle.fd_inject.specs.fd_mat as fd_mat

@@ -18,7 +18,7 @@ acts_in rounds = map (λ r. map seen r.acts.items) rounds
 
 -- what the certified states of rounds claim
 abbrev pub claims_in : List Round → List Claim
-claims_in rounds = map (λ r. claim_in r.certified) rounds
+claims_in rounds = map (λ r. claim_in r.certified.value) rounds
 
 -- the settle over the certified states of rounds
 abbrev pub settled : Plant → Machine → List Round → Settle

@@ -9,7 +9,7 @@
 // - `round`: a round, and an act
 // - `clock`: the time, and the last opening times of the banks
 // - `solver`: what finds certified states
-// - `compute`: the solver that computes them
+// - `compute`: the solver that computes them; `kept_states`: those that it computed before
 // - `controls`: the controls at work; `state`: one of them, `sampling`, `reacting` and `acting`: what all of them do in a round
 // - `progress`: what a sampling comes to
 // - `settling`: the settle
@@ -25,6 +25,7 @@ mod compute;
 mod controls;
 mod fault;
 mod kept;
+mod kept_states;
 mod laws;
 mod progress;
 mod reacting;
@@ -35,12 +36,13 @@ mod solver;
 mod state;
 
 pub use clock::Clock;
-pub use compute::{Compute, ComputeFault};
+pub use compute::{Compute, ComputeFault, compute_kept};
 pub use controls::Controls;
 pub use fault::SettleFault;
 pub use kept::{kept_law, kept_rounds_law, sound_at_law};
+pub use kept_states::{KeptState, KeptStates};
 pub use laws::{Sampled, agree_law, computation_law, end_law, history_law, whole_law};
-pub use round::{Act, Round};
+pub use round::{Act, Round, shared};
 pub use settling::settle;
 pub use solver::Solver;
 

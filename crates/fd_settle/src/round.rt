@@ -1,7 +1,10 @@
 // A round of a settle.
+ghost use Rattle.std.specs.Prelude.{◌≡◌, IfOk};
 ghost use Rattle.fd_settle.specs.Numbers.{AreActNumbers};
 
 use fd_cert::Certified;
+use std::alloc::{AllocError, Global};
+use std::rc::Rc;
 
 /// An act of a control: a step of a tap changer or a bank.
 #[derive(Clone, Copy, PartialEq, Eq, Debug)]
@@ -17,9 +20,22 @@ pub struct Act {
     ghost numbers: { AreActNumbers time control steps },
 }
 
-/// A solve of a settle: the certified state, and the acts behind it in order.
+/// A solve of a settle: the certified state, which a solver may keep too, and the acts behind it in order.
 #[derive(Drop)]
 pub struct Round {
-    pub certified: Certified,
+    pub certified: Rc<Certified>,
     pub acts: Vec<Act>,
+}
+
+/// A certified state that several can hold.
+///
+/// # Errors
+/// `AllocError` where the memory for it is refused.
+pub fn shared(alloc: Global, certified: Certified) -> Result<Rc<Certified>, AllocError>
+    ensures { IfOk result (λ m. m.value ≡ certified) }
+{
+    match Rc::new(alloc, certified) {
+        Ok(certified) => Ok(certified),
+        Err(_) => Err(AllocError),
+    }
 }

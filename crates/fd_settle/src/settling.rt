@@ -86,7 +86,7 @@ pub fn settle<V: Solver>(
             Err(fault) => return Err(SettleFault::Solver(fault)),
         };
         let mut acts = room_for_round(alloc, controls.count(), rounds)?;
-        let progress = controls.step(at, clock, &certified, &mut acts);
+        let progress = controls.step(at, clock, certified.as_ref(), &mut acts);
         let _ = rounds.push(Round { certified, acts });
         if let Some(end) = ended(progress) {
             return end;

@@ -10,6 +10,7 @@ ghost use Rattle.fd_settle.specs.Calls.{answer_in};
 use fd_cert::Certified;
 use fd_inject::{Limits, NetworkRows};
 use std::alloc::Global;
+use std::rc::Rc;
 
 /// Finds certified states of networks.
 pub trait Solver {
@@ -25,8 +26,8 @@ pub trait Solver {
         alloc: Global,
         net: &NetworkRows,
         limits: &Limits,
-    ) -> Result<Certified, Self::Fault>
+    ) -> Result<Rc<Certified>, Self::Fault>
         requires limits { IsLimits limits.now }
         ensures gives { gives self.old limits.now net.now (answer_in result) self.new }
-        ensures sound { IfOk result (λ m. IsSound net.now (claim_in m)) };
+        ensures sound { IfOk result (λ m. IsSound net.now (claim_in m.value)) };
 }

@@ -39,7 +39,7 @@ fn bus_records(
     ensures { IfOk result (λ r. pieces_of r.items ≡ lines_of (short_records (solution_in (round_in round.now))
         (first_branch layout.now place element.now) bus.now.name bus.now.nodes)) }
 {
-    let certified = &round.certified;
+    let certified = round.certified.as_ref();
     let solution = Solution::new(
         &certified.ball.centre,
         &certified.ball.radius,

@@ -61,8 +61,8 @@ module _ (c : CircuitView) (hour : ℕ) where
   all_of_size m [] sound = All-nil (λ r. IsOfSize (size_of (layout_of c.elements)) (solution_in r))
   all_of_size m (r ∷ rs) sound =
       All-cons (λ r. IsOfSize (size_of (layout_of c.elements)) (solution_in r)) (round_in r) (rounds_in rs)
-      (is_of_size c hour m.at (claim_in r.certified) sound.0 (map seen r.acts.items))
-      (all_of_size (after_round (plant_at c hour) m (claim_in r.certified)) rs sound.1)
+      (is_of_size c hour m.at (claim_in r.certified.value) sound.0 (map seen r.acts.items))
+      (all_of_size (after_round (plant_at c hour) m (claim_in r.certified.value)) rs sound.1)
 
   all_claims : (m : Machine) (rs : List Made)
       → AtEach (IsSoundAt c (hour_powers c.elements hour)) (plant_at c hour) m (claims_in rs)
@@ -70,8 +70,8 @@ module _ (c : CircuitView) (hour : ℕ) where
   all_claims m [] sound = All-nil (IsRoundOf (size_of (layout_of c.elements)))
   all_claims m (r ∷ rs) sound =
       All-cons (IsRoundOf (size_of (layout_of c.elements))) r rs
-      (sound_claim c hour m.at (claim_in r.certified) sound.0)
-      (all_claims (after_round (plant_at c hour) m (claim_in r.certified)) rs sound.1)
+      (sound_claim c hour m.at (claim_in r.certified.value) sound.0)
+      (all_claims (after_round (plant_at c hour) m (claim_in r.certified.value)) rs sound.1)
 
 -- ---- what a fault tells
 
@@ -156,7 +156,7 @@ module _ (c : CircuitView) (hour : ℕ) (l : Kept) (rs : List Made) (k : Kept) (
       let within : length (computed_in rs) + first.made ≤ c.options.maxcontroliter + 1 =
       few_rounds (limits_of c.options) (plant_at c hour) first (computed_in rs) ending last
       (omega (arith, begun_made c hour l.machine)) computed in
-      let as_computed : Made → Claim × List Act = λ r. (claim_in r.certified, map seen r.acts.items) in
+      let as_computed : Made → Claim × List Act = λ r. (claim_in r.certified.value, map seen r.acts.items) in
       omega (arith, within, most, length-map rs as_computed)
 
   printable : (result : Result (Unit {0}) (SettleFault ComputeFault)) (ending : Ending) → MadeHere result

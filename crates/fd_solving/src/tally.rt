@@ -40,7 +40,7 @@ fn greatest_in(so_far: u128, rounds: &[Round]) -> u128
 {
     let mut greatest = so_far;
     for round in rounds {
-        greatest = greatest_of(greatest, round.certified.mismatch.as_slice());
+        greatest = greatest_of(greatest, round.certified.as_ref().mismatch.as_slice());
     }
     greatest
 }

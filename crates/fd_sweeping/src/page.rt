@@ -104,7 +104,7 @@ fn sweep_records(alloc: Global, made: &SolvedHour<'_>) -> Result<Vec<Record>, Al
     match made.rounds.first() {
         None => Ok(Vec::new(alloc)),
         Some(round) => {
-            let ladder = swept_beside(alloc, made.circuit, &round.certified)?;
+            let ladder = swept_beside(alloc, made.circuit, round.certified.as_ref())?;
             sweep_record(alloc, ladder)
         }
     }

@@ -1,12 +1,16 @@
-use Rattle.std.proofs.Common.{◌≡◌, ℕ, List, [], ◌∷◌, ◌++◌, All, ap, sym, subst, ◌∙◌, rules}
+use Rattle.std.proofs.Common.{◌≡◌, ℕ, ◌<◌, List, [], ◌∷◌, ◌++◌, length, All, ap, sym, subst, ◌∙◌, rules}
 use Rattle.std.specs.Prelude.{map}
 use Rattle.std.specs.List.{concat}
 use Rattle.fd_settle.specs.declared.round.Act.{Act as Made}
+use Rattle.fd_settle.specs.fd_cert.Claims.{claim_in}
+use Rattle.fd_settle.specs.fd_cert.declared.ball.Certified.{Certified}
+use Rattle.fd_settle.specs.fd_equations.Rounded.{list_of}
+use Rattle.fd_settle.specs.fd_mat.Rows.{row_of}
 use Rattle.fd_outside.specs.declared.bytes.Record.{Record}
 use Rattle.fd_outside.specs.Emitted.{pieces_of}
 use Rattle.fd_certfile.specs.Blocks.{Sparse, act_line, block_at, block_lines}
 use Rattle.fd_certfile.specs.Lines.{line_bytes, lines_of}
-use Rattle.fd_certfile.specs.Rounds.{AreNumbers, act_of, block_of}
+use Rattle.fd_certfile.specs.Rounds.{AreNumbers, act_of, block_of, part_bytes, row_bytes}
 use Rattle.fd_certfile.proofs.RowTexts.{concat_lines}
 use Rattle.fd_certfile.proofs.Writing.{lines_together, pieces_pushed, sized, writable}
 use Rattle.fd_certfile.proofs.Written.{text_law}
@@ -24,8 +28,12 @@ returns-clause-lines c =
     ∙ ap (λ (rs : List Record). pieces_of rs ++ c.in_ok-solution_record.field-0.bytes ∷ [])
     c.new-records.ensures.items
     ∙ ap (λ (b : List ℕ). b ∷ []) c.in_ok-solution_record.ensures)
-    c.in_ok-push_parts.ensures (c.requires.inverse.long ∙ sym c.size-size.ensures.rows)
-    c.in_ok-push_rows.ensures.lines (c.in_ok-push_acts.ensures.lines
+    (c.in_ok-push_parts.ensures
+    ∙ ap (λ (m : Certified). pieces_of c.push.new.self.items ++ list_of c.size-size.result (part_bytes (claim_in m))) c.as_ref-certified.ensures)
+    (c.requires.inverse.long ∙ sym c.size-size.ensures.rows)
+    (c.in_ok-push_rows.ensures.lines
+    ∙ ap (λ (m : Certified). pieces_of c.push_parts.new.records.items ++ list_of (length m.inverse) (row_bytes m.inverse)) c.as_ref-certified.ensures)
+    (c.in_ok-push_acts.ensures.lines
     ∙ ap (λ (acts : List Made).
     pieces_of c.push_rows.new.records.items ++ map line_bytes (map act_line (map act_of acts)))
     c.deref.ensures.value))
@@ -37,8 +45,10 @@ returns-clause-read c = λ tail k.
     (block_of c.args.net.now.rows.size c.args.number c.args.hour c.args.round c.args.made.now)))
     ∙ text_law.again Sparse (block_of c.args.net.now.rows.size c.args.number c.args.hour c.args.round c.args.made.now)
     tail (sized c.args.net.now.rows.size c.args.number c.args.hour c.args.round c.args.made.now c.requires
-    c.in_ok-push_rows.ensures.wide)
+    (subst (λ (m : Certified). (i : ℕ) → i < length m.inverse → length (row_of m.inverse i) ≡ length m.inverse) c.as_ref-certified.ensures
+    c.in_ok-push_rows.ensures.wide))
     (writable c.args.net.now.rows.size c.args.number c.args.hour c.args.round c.args.made.now c.requires
-    c.in_ok-push_rows.ensures.wide (search rules) (search rules) (search rules) (search rules)
+    (subst (λ (m : Certified). (i : ℕ) → i < length m.inverse → length (row_of m.inverse i) ≡ length m.inverse) c.as_ref-certified.ensures
+    c.in_ok-push_rows.ensures.wide) (search rules) (search rules) (search rules) (search rules)
     (subst (All (λ (a : Made). AreNumbers (act_of a))) c.deref.ensures.value c.in_ok-push_acts.ensures.small))
     k

@@ -11,7 +11,7 @@ use Rattle.fd_pages.proofs.certificate.add_block.Goals as goal
 pub write_block-requires : goal.write_block-requires
 write_block-requires c =
     let size = sym c.size-size.ensures.rows ∙ c.size-size.ensures.layout ∙ ap size_of c.requires.network.layout in
-    subst (λ n. IsClaimOf n (claim_in c.args.round.now.certified)) (sym size) c.requires.numbers
+    subst (λ n. IsClaimOf n (claim_in c.args.round.now.certified.value)) (sym size) c.requires.numbers
 
 pub returns : goal.returns
 returns c s at =

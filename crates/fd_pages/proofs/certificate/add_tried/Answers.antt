@@ -1,6 +1,7 @@
 use Rattle.std.proofs.Common.{◌≡◌, ◌++◌, List, length, map, subst}
 use Rattle.std.specs.Prelude.{OnOk}
 use Rattle.fd_outcome.specs.fd_cert.Claims.{claim_in}
+use Rattle.fd_outcome.specs.fd_cert.declared.ball.Certified.{Certified}
 use Rattle.fd_outcome.specs.fd_outside.Emitted.{pieces_of}
 use Rattle.fd_outcome.specs.fd_settle.Rounds.{seen}
 use Rattle.fd_outcome.specs.fd_settle.declared.round.Act.{Act}
@@ -13,4 +14,8 @@ returns c s at =
     subst (λ (acts : List Act).
     OnOk c.add_block.result (pieces_of c.add_block.new.into.items ≡ pieces_of c.args.into.now.items ++ block_texts
     (block_in s (length c.args.made.now.rounds.now) (round_of (claim_in c.args.tried) (map seen acts)))))
-    c.new.ensures.items (c.add_block.ensures s at)
+    c.new.ensures.items
+    (subst (λ (m : Certified).
+    OnOk c.add_block.result (pieces_of c.add_block.new.into.items ≡ pieces_of c.args.into.now.items ++ block_texts
+    (block_in s (length c.args.made.now.rounds.now) (round_of (claim_in m) (map seen c.new.result.items)))))
+    c.in_ok-shared.ensures (c.add_block.ensures s at))

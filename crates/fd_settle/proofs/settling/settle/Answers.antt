@@ -1,13 +1,15 @@
 use Rattle.std.proofs.Common.{arith, rules, ◌≡◌, ◌++◌, ◌∷◌, [], List, length, Ok, Err, refl, sym, ap, subst, ◌∙◌}
 use Rattle.std.proofs.lemmas.Result.{err_from_is_err_and}
 use Rattle.fd_cert.specs.Claims.{claim_in}
+use Rattle.fd_cert.specs.declared.ball.Certified.{Certified}
+use Rattle.fd_sample.specs.Balls.{IsBall}
 use Rattle.fd_sample.specs.Probes.{positions_in}
 use Rattle.fd_settle.specs.declared.progress.Progress.{Progress}
 use Rattle.fd_settle.specs.declared.round.Round.{Round}
 use Rattle.fd_settle.specs.Contract.{limits_of}
 use Rattle.fd_settle.specs.Controls.{AreControls, HasNumbers, machine_of}
 use Rattle.fd_settle.specs.Settle.{Open}
-use Rattle.fd_settle.proofs.Underway.{IsStep, IsUnderway, ball_of, centre_long, end_by, few_numbers, fewer_left, goes_on, no_end, numbers_kept, over_memory, over_refused, over_solver, over_told, stepped_positions, underway_first, underway_more, updated}
+use Rattle.fd_settle.proofs.Underway.{IsStep, IsUnderway, ball_of, centre_long, end_by, few_numbers, fewer_left, goes_on, no_end, numbers_kept, over_memory, over_refused, over_solver, over_told, same_step, stepped_positions, underway_first, underway_more, updated}
 use Rattle.fd_settle.proofs.settling.settle.Goals as goal
 
 pub loop-certified-init : goal.loop-certified-init
@@ -51,7 +53,7 @@ pub returns-in_err-acts : goal.returns-in_err-acts
 returns-in_err-acts g c =
     let limits : c.limits_of-limits.result ≡ limits_of c.args.circuit.now.options = c.limits_of-limits.ensures.limits ∙ ap limits_of c.options.ensures.value in
     let gave = subst (λ k.
-    g.V.Solver.gives c.loop-certified.solver k c.rows.result (Ok (claim_in c.in-Ok.certified)) c.solve.new.self)
+    g.V.Solver.gives c.loop-certified.solver k c.rows.result (Ok (claim_in c.in-Ok.certified.value)) c.solve.new.self)
     limits c.in-Ok.ensures.gives in
     let kept : c.loop-certified.rounds.items ≡ c.room_for_round.new.rounds.items = sym {A = List Round} c.room_for_round.ensures.kept in
     let here = subst (λ (rs : List Round). IsUnderway (λ v. g.V.Solver.gives v (limits_of c.args.circuit.now.options))
@@ -64,7 +66,7 @@ returns-in_err-acts g c =
     over_memory (λ v. g.V.Solver.gives v (limits_of c.args.circuit.now.options)) c.args.circuit.now c.args.powers.now
     (machine_of c.args.at.now c.args.clock.now c.args.controls.now) c.args.solver.now c.args.rounds.now.items c.room_for_round.new.rounds.items
     c.loop-certified.at c.loop-certified.clock c.loop-certified.controls c.loop-certified.net c.loop-certified.solver
-    here c.loop-certified.invariant.network c.rows.result (claim_in c.in-Ok.certified) c.solve.new.self
+    here c.loop-certified.invariant.network c.rows.result (claim_in c.in-Ok.certified.value) c.solve.new.self
     c.from_residual.result c.rows.ensures gave (p.1 ∙ ap Err p.2) in
     record {
       kept = o.kept;
@@ -88,8 +90,9 @@ returns-in_err-acts g c =
 pub step-progress-requires-clause-controls : goal.step-progress-requires-clause-controls
 step-progress-requires-clause-controls g c =
     let long = centre_long c.args.circuit.now c.args.powers.now.loads (positions_in c.loop-certified.at) c.rows.result
-    c.in-Ok.certified (c.rows.ensures ∙ c.loop-certified.invariant.network.rows) c.in-Ok.ensures.sound in
-    subst (λ k. AreControls k c.loop-certified.at c.loop-certified.clock c.loop-certified.controls) (sym long) c.loop-certified.invariant.underway.work.keeps
+    c.in-Ok.certified.value (c.rows.ensures ∙ c.loop-certified.invariant.network.rows) c.in-Ok.ensures.sound in
+    subst (λ k. AreControls k c.loop-certified.at c.loop-certified.clock c.loop-certified.controls)
+    (sym (ap (λ (m : Certified). length m.ball.centre.items) c.as_ref.ensures ∙ long)) c.loop-certified.invariant.underway.work.keeps
 
 pub step-progress-requires-clause-numbers : goal.step-progress-requires-clause-numbers
 step-progress-requires-clause-numbers g c =
@@ -98,13 +101,15 @@ step-progress-requires-clause-numbers g c =
     omega (arith, few, c.requires.numbers)
 
 pub step-progress-requires-clause-ball : goal.step-progress-requires-clause-ball
-step-progress-requires-clause-ball g c = ball_of c.rows.result c.in-Ok.certified c.in-Ok.ensures.sound
+step-progress-requires-clause-ball g c =
+    subst (λ (m : Certified). IsBall m.ball.centre.items m.ball.radius.items) (sym c.as_ref.ensures)
+    (ball_of c.rows.result c.in-Ok.certified.value c.in-Ok.ensures.sound)
 
 pub returns-in-Some : goal.returns-in-Some
 returns-in-Some g c =
     let limits : c.limits_of-limits.result ≡ limits_of c.args.circuit.now.options = c.limits_of-limits.ensures.limits ∙ ap limits_of c.options.ensures.value in
     let gave = subst (λ k.
-    g.V.Solver.gives c.loop-certified.solver k c.rows.result (Ok (claim_in c.in-Ok.certified)) c.solve.new.self)
+    g.V.Solver.gives c.loop-certified.solver k c.rows.result (Ok (claim_in c.in-Ok.certified.value)) c.solve.new.self)
     limits c.in-Ok.ensures.gives in
     let kept : c.loop-certified.rounds.items ≡ c.room_for_round.new.rounds.items = sym {A = List Round} c.room_for_round.ensures.kept in
     let here = subst (λ (rs : List Round). IsUnderway (λ v. g.V.Solver.gives v (limits_of c.args.circuit.now.options))
@@ -112,10 +117,10 @@ returns-in-Some g c =
     (machine_of c.args.at.now c.args.clock.now c.args.controls.now) c.args.rounds.now.items rs Open c.loop-certified.at
     c.loop-certified.clock c.loop-certified.controls c.loop-certified.solver)
     kept c.loop-certified.invariant.underway in
-    let step : IsStep c.loop-certified.at c.loop-certified.clock c.loop-certified.controls c.in-Ok.certified
+    let step : IsStep c.loop-certified.at c.loop-certified.clock c.loop-certified.controls c.in-Ok.certified.value
     c.step-progress.result c.step-progress.new.acts.items c.step-progress.new.at c.step-progress.new.clock
     c.step-progress.new.self =
-    record {
+    same_step _ _ _ _ _ _ _ _ _ _ c.as_ref.ensures (record {
       probes = c.step-progress.ensures.probes;
       limit = c.step-progress.ensures.limit;
       timing = c.step-progress.ensures.timing;
@@ -125,7 +130,7 @@ returns-in-Some g c =
       taps = c.step-progress.ensures.taps;
       closed = c.step-progress.ensures.closed;
       time = c.step-progress.ensures.time;
-    } in
+    }) in
     let new : c.push.new.self.items
     ≡ c.room_for_round.new.rounds.items
     ++ (record { certified = c.in-Ok.certified; acts = c.step-progress.new.acts }) ∷ [] =
@@ -165,7 +170,7 @@ returns-in-Some g c =
 
 pub update-requires-clause-settings : goal.update-requires-clause-settings
 update-requires-clause-settings g c =
-    (stepped_positions c.args.circuit.now c.args.powers.now.loads (length c.in-Ok.certified.ball.centre.items)
+    (stepped_positions c.args.circuit.now c.args.powers.now.loads (length c.as_ref.result.now.ball.centre.items)
     c.loop-certified.at c.step-progress.new.at c.step-progress.new.clock c.step-progress.new.self
     c.loop-certified.invariant.underway.positions c.step-progress.ensures.controls c.step-progress.ensures.taps
     c.step-progress.ensures.closed).counts
@@ -178,10 +183,10 @@ update-requires-clause-built g c = c.loop-certified.invariant.network.built
 
 pub loop-certified-smaller : goal.loop-certified-smaller
 loop-certified-smaller g c =
-    let step : IsStep c.loop-certified.at c.loop-certified.clock c.loop-certified.controls c.in-Ok.certified
+    let step : IsStep c.loop-certified.at c.loop-certified.clock c.loop-certified.controls c.in-Ok.certified.value
     c.step-progress.result c.step-progress.new.acts.items c.step-progress.new.at c.step-progress.new.clock
     c.step-progress.new.self =
-    record {
+    same_step _ _ _ _ _ _ _ _ _ _ c.as_ref.ensures (record {
       probes = c.step-progress.ensures.probes;
       limit = c.step-progress.ensures.limit;
       timing = c.step-progress.ensures.timing;
@@ -191,10 +196,10 @@ loop-certified-smaller g c =
       taps = c.step-progress.ensures.taps;
       closed = c.step-progress.ensures.closed;
       time = c.step-progress.ensures.time;
-    } in
+    }) in
     let moved = goes_on {F = g.row.V-Fault.Denot} c.step-progress.result (no_end _ c.ended.result c.ended.ensures c.in_default.not-Some) in
     fewer_left c.count_law.ensures c.loop-certified.at c.step-progress.new.at c.loop-certified.clock
-    c.step-progress.new.clock c.loop-certified.controls c.step-progress.new.self c.in-Ok.certified
+    c.step-progress.new.clock c.loop-certified.controls c.step-progress.new.self c.in-Ok.certified.value
     c.step-progress.result c.step-progress.new.acts.items c.args.circuit.now.options.maxcontroliter step moved
     c.loop-certified.invariant.underway.work.limit
 
@@ -202,7 +207,7 @@ pub loop-certified-preserved : goal.loop-certified-preserved
 loop-certified-preserved g c =
     let limits : c.limits_of-limits.result ≡ limits_of c.args.circuit.now.options = c.limits_of-limits.ensures.limits ∙ ap limits_of c.options.ensures.value in
     let gave = subst (λ k.
-    g.V.Solver.gives c.loop-certified.solver k c.rows.result (Ok (claim_in c.in-Ok.certified)) c.solve.new.self)
+    g.V.Solver.gives c.loop-certified.solver k c.rows.result (Ok (claim_in c.in-Ok.certified.value)) c.solve.new.self)
     limits c.in-Ok.ensures.gives in
     let kept : c.loop-certified.rounds.items ≡ c.room_for_round.new.rounds.items = sym {A = List Round} c.room_for_round.ensures.kept in
     let here = subst (λ (rs : List Round). IsUnderway (λ v. g.V.Solver.gives v (limits_of c.args.circuit.now.options))
@@ -210,10 +215,10 @@ loop-certified-preserved g c =
     (machine_of c.args.at.now c.args.clock.now c.args.controls.now) c.args.rounds.now.items rs Open c.loop-certified.at
     c.loop-certified.clock c.loop-certified.controls c.loop-certified.solver)
     kept c.loop-certified.invariant.underway in
-    let step : IsStep c.loop-certified.at c.loop-certified.clock c.loop-certified.controls c.in-Ok.certified
+    let step : IsStep c.loop-certified.at c.loop-certified.clock c.loop-certified.controls c.in-Ok.certified.value
     c.step-progress.result c.step-progress.new.acts.items c.step-progress.new.at c.step-progress.new.clock
     c.step-progress.new.self =
-    record {
+    same_step _ _ _ _ _ _ _ _ _ _ c.as_ref.ensures (record {
       probes = c.step-progress.ensures.probes;
       limit = c.step-progress.ensures.limit;
       timing = c.step-progress.ensures.timing;
@@ -223,7 +228,7 @@ loop-certified-preserved g c =
       taps = c.step-progress.ensures.taps;
       closed = c.step-progress.ensures.closed;
       time = c.step-progress.ensures.time;
-    } in
+    }) in
     let new : c.push.new.self.items
     ≡ c.room_for_round.new.rounds.items
     ++ (record { certified = c.in-Ok.certified; acts = c.step-progress.new.acts }) ∷ [] =
@@ -256,7 +261,7 @@ pub returns-in_err-update : goal.returns-in_err-update
 returns-in_err-update g c =
     let limits : c.limits_of-limits.result ≡ limits_of c.args.circuit.now.options = c.limits_of-limits.ensures.limits ∙ ap limits_of c.options.ensures.value in
     let gave = subst (λ k.
-    g.V.Solver.gives c.loop-certified.solver k c.rows.result (Ok (claim_in c.in-Ok.certified)) c.solve.new.self)
+    g.V.Solver.gives c.loop-certified.solver k c.rows.result (Ok (claim_in c.in-Ok.certified.value)) c.solve.new.self)
     limits c.in-Ok.ensures.gives in
     let kept : c.loop-certified.rounds.items ≡ c.room_for_round.new.rounds.items = sym {A = List Round} c.room_for_round.ensures.kept in
     let here = subst (λ (rs : List Round). IsUnderway (λ v. g.V.Solver.gives v (limits_of c.args.circuit.now.options))
@@ -264,10 +269,10 @@ returns-in_err-update g c =
     (machine_of c.args.at.now c.args.clock.now c.args.controls.now) c.args.rounds.now.items rs Open c.loop-certified.at
     c.loop-certified.clock c.loop-certified.controls c.loop-certified.solver)
     kept c.loop-certified.invariant.underway in
-    let step : IsStep c.loop-certified.at c.loop-certified.clock c.loop-certified.controls c.in-Ok.certified
+    let step : IsStep c.loop-certified.at c.loop-certified.clock c.loop-certified.controls c.in-Ok.certified.value
     c.step-progress.result c.step-progress.new.acts.items c.step-progress.new.at c.step-progress.new.clock
     c.step-progress.new.self =
-    record {
+    same_step _ _ _ _ _ _ _ _ _ _ c.as_ref.ensures (record {
       probes = c.step-progress.ensures.probes;
       limit = c.step-progress.ensures.limit;
       timing = c.step-progress.ensures.timing;
@@ -277,7 +282,7 @@ returns-in_err-update g c =
       taps = c.step-progress.ensures.taps;
       closed = c.step-progress.ensures.closed;
       time = c.step-progress.ensures.time;
-    } in
+    }) in
     let new : c.push.new.self.items
     ≡ c.room_for_round.new.rounds.items
     ++ (record { certified = c.in-Ok.certified; acts = c.step-progress.new.acts }) ∷ [] =

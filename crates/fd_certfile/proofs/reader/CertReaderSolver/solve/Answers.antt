@@ -1,5 +1,6 @@
 use Rattle.std.proofs.Common.{◌≡◌, ◌∙◌, ℕ, ◌+◌, None, Ok, Err, map, refl, ap, sym, subst}
 use Rattle.fd_settle.specs.fd_mat.Rows.{square}
+use Rattle.fd_settle.specs.fd_cert.Claims.{claim_in}
 use Rattle.fd_settle.specs.fd_cert.Rechecks.{IsBoxed, boxed_claim, first_unsound}
 use Rattle.fd_certfile.specs.Claiming.{centre_in, claim_read, mismatch_in, radius_in}
 use Rattle.fd_certfile.specs.Reader.{ReaderView, next_of}
@@ -32,7 +33,7 @@ returns-in-Ok-2-clause-gives c =
     record {
       block = h.block;
       solved = solved_ok v r h.block c.pass.new.self next whole;
-      claim = told.1 ∙ read ∙ solved_claim v r h.block c.pass.new.self next whole;
+      claim = ap claim_in c.in_ok-state.ensures ∙ told.1 ∙ read ∙ solved_claim v r h.block c.pass.new.self next whole;
     }
 
 pub returns-clause-gives : goal.returns-clause-gives
