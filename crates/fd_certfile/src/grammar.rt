@@ -39,13 +39,13 @@ pub fn certificate_law()
 {}
 
 /// Small cases of a row that has its entries with their places.
-#[tactic(auto, using(crate::proofs::Examples::sparse_rows))]
+#[tactic(auto, using(crate::proofs::Laws::sparse_rows))]
 pub fn sparse_rows()
     ensures { SparseRows }
 {}
 
 /// Small cases of a block.
-#[tactic(auto, using(crate::proofs::Examples::block_cases))]
+#[tactic(auto, using(crate::proofs::Laws::block_cases))]
 pub fn block_cases()
     ensures { BlockCases }
 {}

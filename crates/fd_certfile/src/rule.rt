@@ -37,13 +37,13 @@ pub fn solving_law<S, F>()
 {}
 
 /// Small cases of verdicts: what is missing, left or broken, and at which line.
-#[tactic(auto, using(crate::proofs::RuleExamples::verdict_cases))]
+#[tactic(auto, using(crate::proofs::Laws::verdict_cases))]
 pub fn verdict_cases()
     ensures { VerdictCases }
 {}
 
 /// Small cases of the rules: each one, at its limits, and their order.
-#[tactic(auto, using(crate::proofs::RuleExamples::rule_cases))]
+#[tactic(auto, using(crate::proofs::Laws::rule_cases))]
 pub fn rule_cases()
     ensures { RuleCases }
 {}

@@ -3,7 +3,7 @@
 //
 // A `Network` promises, at a point of whole micro-units: the residual of each row in intervals, which holds the exact one and is
 // never ALL (`residual`); the rounded residual, the start matrix and the rounded Jacobian of a step (`rounded_residual`,
-// `start_matrix`, `rounded_jacobian`); the weight of each unknown (`weights`); what the unknown at a place is (`kind`), and how many
+// `sparse_start`, `sparse_jacobian`); the weight of each unknown (`weights`); what the unknown at a place is (`kind`), and how many
 // summands of the Jacobian stand at a place (`count`). Part loads of constant impedance stand in the contributions; those of constant
 // power and of constant current are added to the rows and the matrices.
 //

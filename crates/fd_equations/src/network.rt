@@ -208,7 +208,7 @@ impl<'a> Network<'a> {
     ///
     /// # Errors
     /// `AllocError` where the memory for the entries is refused.
-    pub fn start_matrix(&self, alloc: Global) -> Result<SparseRows, AllocError>
+    pub fn sparse_start(&self, alloc: Global) -> Result<SparseRows, AllocError>
         ensures entries { IfOk result (λ m. m ≡ start_matrix_of self.now) }
         ensures small { IfOk result (λ m. EntriesWithin m (2 ^ 100)) }
     {
@@ -231,7 +231,7 @@ impl<'a> Network<'a> {
     ///
     /// # Errors
     /// `AllocError` where the memory for the entries is refused.
-    pub fn rounded_jacobian(&self, alloc: Global, x: &[i128]) -> Result<SparseRows, AllocError>
+    pub fn sparse_jacobian(&self, alloc: Global, x: &[i128]) -> Result<SparseRows, AllocError>
         requires { IsPoint self.now x.now }
         ensures entries { IfOk result (λ m. m ≡ jacobian_of self.now x.now) }
         ensures small { IfOk result (λ m. EntriesWithin m (2 ^ 100)) }

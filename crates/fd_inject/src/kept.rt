@@ -119,7 +119,7 @@ pub fn solve_kept(
     ensures as_before { OnErr result (kept.new ≡ kept.old) }
 {
     keep_memory(alloc, net.size());
-    let matrix = net.start_matrix(alloc)?;
+    let matrix = net.sparse_start(alloc)?;
     match kept.find(&matrix) {
         Some(place) => solve_at(alloc, net, limits, kept, place),
         None => solve_anew(alloc, net, limits, kept, matrix),

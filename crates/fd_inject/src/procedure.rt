@@ -31,7 +31,7 @@ fn inverse_there(alloc: Global, net: &Network, x: &[i128]) -> Result<Dense, Solv
     ensures size { IfOk result (λ c. length c ≡ net.now.size) }
     ensures small { IfOk result (λ c. EntriesWithin c (2 ^ 56)) }
 {
-    let matrix = net.rounded_jacobian(alloc, x)?;
+    let matrix = net.sparse_jacobian(alloc, x)?;
     inverse(alloc, &matrix)
 }
 

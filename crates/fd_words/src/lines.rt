@@ -1,11 +1,12 @@
 // The words of a form taken apart by a command of `clap`.
-ghost use Rattle.std.specs.Prelude.{◌≡◌, ◌∷◌, [], IfOk, IfSome, codes, false, fold, length, map, option_and_then};
+ghost use Rattle.std.specs.Prelude.{◌≡◌, ◌≤◌, ◌∷◌, [], IfOk, IfSome, codes, false, fold, length, map, option_and_then};
 ghost use Rattle.std.specs.Option.{option_map};
 ghost use Rattle.clap.specs.declared.builder.command.Command.TheViews.{out-Command};
 ghost use Rattle.clap.specs.Simple.{new_shape};
 ghost use Rattle.clap.specs.Words.{all_of, app_of, found_of, rows_of, subcommand_rows_of};
 ghost use Rattle.fd_words.specs.Lines.{form_of_rows, no_lines, with_line, words_rule};
-ghost use Rattle.fd_words.specs.Words.{form_in, form_of, has_sections};
+ghost use Rattle.fd_words.specs.Words.{Bench, Gen, form_in, form_of, form_with, has_sections};
+ghost use Rattle.fd_words.specs.declared.table.Kind.TheVariants.{Number, Sections};
 
 use crate::numbers::{number_of, sections_of};
 use crate::shorts::short_of;
@@ -54,6 +55,20 @@ fn words_in<'m, 'a>(matches: &'m ArgMatches<'a>) -> Option<&'m [&'a str]>
     matches.get_raw("words")
 }
 
+// The number and the sections of a generated feeder.
+fn size_of(words: &[&str]) -> Option<(u64, u32)>
+    ensures made { option_map (λ size. Gen size.0 size.1) result
+        ≡ form_with (Number ∷ Sections ∷ []) Gen (map (λ word. word.now) words.now) }
+    ensures measured { option_map (λ size. Bench size.0 size.1) result
+        ≡ form_with (Number ∷ Sections ∷ []) Bench (map (λ word. word.now) words.now) }
+    ensures some { IfSome result (λ size. 1 ≤ size.1) }
+{
+    match words {
+        [number, sections] => Some((number_of(number)?, sections_of(sections)?)),
+        _ => None,
+    }
+}
+
 // The form of a first word and the words behind it.
 fn form_of_words<'a>(name: &str, words: &[&'a str]) -> Option<Form<'a>>
     ensures form { option_map form_in result ≡ form_of (name.now ∷ map (λ word. word.now) words.now) }
@@ -72,20 +87,14 @@ fn form_of_words<'a>(name: &str, words: &[&'a str]) -> Option<Form<'a>>
             [script, certificate] => { Some(Form::Check(file_of(script)?, file_of(certificate)?)) }
             _ => None,
         },
-        "gen" => match words {
-            [number, sections] => Some(Form::Gen {
-                number: number_of(number)?,
-                sections: sections_of(sections)?,
-            }),
-            _ => None,
-        },
-        "bench" => match words {
-            [number, sections] => Some(Form::Bench {
-                number: number_of(number)?,
-                sections: sections_of(sections)?,
-            }),
-            _ => None,
-        },
+        "gen" => {
+            let (number, sections) = size_of(words)?;
+            Some(Form::Gen { number, sections })
+        }
+        "bench" => {
+            let (number, sections) = size_of(words)?;
+            Some(Form::Bench { number, sections })
+        }
         "upgrade" => match words {
             [certificate] => Some(Form::Upgrade(file_of(certificate)?)),
             _ => None,

@@ -33,7 +33,7 @@ returns-in-Ok-2-clause-gives c =
     record {
       block = h.block;
       solved = solved_ok v r h.block c.pass.new.self next whole;
-      claim = ap claim_in c.in_ok-state.ensures ∙ told.1 ∙ read ∙ solved_claim v r h.block c.pass.new.self next whole;
+      claim = ap claim_in c.in_ok-state-in-Ok-2.ensures ∙ told.1 ∙ read ∙ solved_claim v r h.block c.pass.new.self next whole;
     }
 
 pub returns-clause-gives : goal.returns-clause-gives

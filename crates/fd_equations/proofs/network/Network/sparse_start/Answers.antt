@@ -4,7 +4,7 @@ use Rattle.fd_mat.specs.fd_exact.States.{table}
 use Rattle.fd_equations.specs.Matrices.{start_amount}
 use Rattle.fd_equations.specs.Rounded.{start_entry}
 use Rattle.fd_equations.proofs.WrittenOut.{own_size}
-use Rattle.fd_equations.proofs.network.Network.start_matrix.Goals as goal
+use Rattle.fd_equations.proofs.network.Network.sparse_start.Goals as goal
 
 pub returns-clause-entries : goal.returns-clause-entries
 returns-clause-entries c =
