@@ -1,5 +1,6 @@
 -- The blocks of an accepted certificate are certified, whatever states are chosen.
-use Rattle.std.proofs.Common.{◌≡◌, ◌∙◌, ℕ, ◌<◌, ◌≤◌, ℤ, pos, ◌-ℤ◌, ◌*ℤ◌, nat_abs, List, [], ◌∷◌, map, All, arith, refl, sym, ap, subst}
+use Rattle.std.proofs.Common.{◌≡◌, ◌∙◌, ℕ, ◌<◌, ◌≤◌, ℤ, pos, ◌-ℤ◌, ◌*ℤ◌, nat_abs, List, [], ◌∷◌, map, All, arith, refl}
+use Rattle.std.proofs.Common.{sym, ap, subst}
 use Rattle.std.proofs.lemmas.Int.{ints}
 use Rattle.std.proofs.lemmas.List.Elements.{All-from_get_or, All-head, All-nil, All-tail}
 use Rattle.std.proofs.lemmas.Simd.{map-map}
@@ -31,7 +32,8 @@ use Rattle.fd_checking.specs.fd_daily.Hours.{hours_of, time_of}
 use Rattle.fd_checking.specs.fd_certfile.Blocks.{Block, Part}
 use Rattle.fd_checking.specs.fd_certfile.Certificates.{Certificate, ends, gives, refuses, trails}
 use Rattle.fd_checking.specs.fd_certfile.Rules.{ball_of, moves}
-use Rattle.fd_checking.specs.fd_check.Checking.{Checking, Settling, behind_round, done, open_hours, open_solves, outcome_in, sampled_by, sampling_in, under_way}
+use Rattle.fd_checking.specs.fd_check.Checking.{Checking, Settling, behind_round, done, open_hours, open_solves}
+use Rattle.fd_checking.specs.fd_check.Checking.{outcome_in, sampled_by, sampling_in, under_way}
 use Rattle.fd_checking.specs.fd_check.Laws.{AreOfRounds, IsOfRound}
 use Rattle.fd_checking.specs.fd_daily.Underway.{no_positions, start_from}
 use Rattle.fd_checking.specs.fd_solving.Boxes.{IsInBox}
@@ -68,7 +70,8 @@ own_box layout c place low kind = let none = no_way (part c place) in omega (ari
     no_way z = omega (arith, ints)
 
 -- an hour begins with a machine of the circuit where the hour before left one
-begun_machine : (t : Timing) (now : ℕ) (c : CircuitView) (powers others : List LoadPower) (m : Machine) → IsMachineOf c powers m
+begun_machine : (t : Timing) (now : ℕ) (c : CircuitView) (powers others : List LoadPower) (m : Machine)
+    → IsMachineOf c powers m
     → ArePositions c others m.at → IsMachineOf c others (hour_begun t now m)
 begun_machine timing.Static now c powers others m h at = record {
   positions = at;
@@ -89,12 +92,17 @@ module _ (hours_law : HoursLaw) (next_law : NextLaw) where
   can_start c powers at h next range =
       let is = next_law next.solves next.elements at.taps at.closed in
       record {
-        counts = record { taps = is.counts.taps; closed = is.counts.closed; powers = (hours_law next.elements).count 0 };
+        counts = record {
+          taps = is.counts.taps;
+          closed = is.counts.closed;
+          powers = (hours_law next.elements).count 0;
+        };
         taps = is.within range h.taps;
       }
 
   -- the hours that are left of a Solve, and the Solves behind it
-  hours_stand : (c : CircuitView) (more : List CircuitView) (hours : List ℕ) (powers : List LoadPower) (m : Machine) (n : ℕ)
+  hours_stand : (c : CircuitView) (more : List CircuitView) (hours : List ℕ) (powers : List LoadPower) (m : Machine)
+      (n : ℕ)
       → CanBeSolved c → All CanBeSolved more → IsMachineOf c powers m
       → ((left : Positions) (count : ℕ) → CanStart left → StandsAt (open_solves more left count))
       → StandsAt (open_hours c more hours m n (λ left count. open_solves more left count))
@@ -166,7 +174,8 @@ module _ (law : EnclosureLaw) (sound_law : SoundAtLaw) (kept_law : KeptLaw) (mod
       by (Unclear k u) is acts = absurd (let no : ⊥ = cc acts in no)
       by (Decided ds) is acts =
           ap (outcome_of (setup_of c) s.machine)
-          (alike c s.hour h.circuit.passed h.circuit.within.elements_in_range h.circuit.within.well_formed.entries law at m sound x ds
+          (alike c s.hour h.circuit.passed h.circuit.within.elements_in_range h.circuit.within.well_formed.entries
+          law at m sound x ds
           solves (same_look ∙ is))
 
   certified_block : IsCertified s b
@@ -184,13 +193,16 @@ module _ (law : EnclosureLaw) (sound_law : SoundAtLaw) (kept_law : KeptLaw) (mod
 
   machine_left : IsMachineOf c (hour_powers c.elements s.hour) (left_by (outcome_in c s.machine (ball_of b)))
   machine_left =
-      subst (λ (w : Sampling). IsMachineOf c (hour_powers c.elements s.hour) (left_by (outcome_of (setup_of c) s.machine w))) same_look
+      subst
+      (λ (w : Sampling). IsMachineOf c (hour_powers c.elements s.hour)
+      (left_by (outcome_of (setup_of c) s.machine w))) same_look
       (kept_law c (hour_powers c.elements s.hour) s.machine m h.circuit.passed h.circuit.within.elements_in_range
       h.circuit.within.well_formed.entries h.machine)
 
 -- ---- all blocks
 
-module _ (law : EnclosureLaw) (sound_law : SoundAtLaw) (kept_law : KeptLaw) (modest_law : ModestLaw) (hours_law : HoursLaw)
+module _ (law : EnclosureLaw) (sound_law : SoundAtLaw) (kept_law : KeptLaw) (modest_law : ModestLaw)
+    (hours_law : HoursLaw)
     (next_law : NextLaw) where
   all_certified : (certificate : Certificate) (s : Checking) → StandsAt s → AreOfRounds certificate s
       → AreCertified certificate s
@@ -212,7 +224,11 @@ module _ (law : EnclosureLaw) (sound_law : SoundAtLaw) (kept_law : KeptLaw) (mod
   first_start next range =
       let is = next_law next.solves next.elements [] [] in
       record {
-        counts = record { taps = is.counts.taps; closed = is.counts.closed; powers = (hours_law next.elements).count 0 };
+        counts = record {
+          taps = is.counts.taps;
+          closed = is.counts.closed;
+          powers = (hours_law next.elements).count 0;
+        };
         taps = is.within range (All-nil _);
       }
 

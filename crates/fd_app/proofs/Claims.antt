@@ -1,5 +1,7 @@
 -- The block of a computed round: what it claims is what the rules ask for.
-use Rattle.std.proofs.Common.{◌≡◌, ◌∙◌, ℕ, zero, suc, ◌+◌, ◌*◌, ◌-◌, ◌<◌, ◌≤◌, ◌^◌, ◌≤ℤ◌, ℤ, pos, negsuc, nat_abs, nat_le, nat_lt, not, false, cond, List, [], ◌∷◌, length, get_or, map, Option, Some, None, Ok, refl, sym, ap, subst, arith}
+use Rattle.std.proofs.Common.{◌≡◌, ◌∙◌, ℕ, zero, suc, ◌+◌, ◌*◌, ◌-◌, ◌<◌, ◌≤◌, ◌^◌, ◌≤ℤ◌, ℤ, pos, negsuc, nat_abs}
+use Rattle.std.proofs.Common.{nat_le, nat_lt, not, false, cond, List, [], ◌∷◌, length, get_or, map, Option, Some, None}
+use Rattle.std.proofs.Common.{Ok, refl, sym, ap, subst, arith}
 use Rattle.std.specs.List.{AllByRecursion, range_with_len}
 use Rattle.std.proofs.lemmas.Bool.{ltb-false}
 use Rattle.std.proofs.lemmas.Int.{ints}
@@ -17,9 +19,12 @@ use Rattle.fd_checking.specs.fd_equations.Rounded.{jacobian_entry, list_of}
 use Rattle.fd_checking.specs.fd_pattern.Views.{NetworkView}
 use Rattle.fd_checking.specs.fd_equations.Weights.{weight_at}
 use Rattle.fd_checking.proofs.CallerLemmas.fd_equations.{get_or-list_of, length-list_of, list_of-ext}
-use Rattle.fd_checking.specs.fd_enclosure.Bounds.{bound_at, bound_of, first_unbounded, first_wide, is_below_one, radius_at, reach_at, reach_of, refusal, unless_unbounded, unless_wide}
+use Rattle.fd_checking.specs.fd_enclosure.Bounds.{bound_at, bound_of, first_unbounded, first_wide, is_below_one}
+use Rattle.fd_checking.specs.fd_enclosure.Bounds.{radius_at, reach_at, reach_of, refusal, unless_unbounded, unless_wide}
 use Rattle.fd_checking.specs.fd_enclosure.Radii.{slope_radius}
-use Rattle.fd_checking.specs.fd_enclosure.Sound.{Claim, certificate_of, claim_of, first_loose, greatest_mismatch, mismatch_at, mismatches_of, number_at, radii_of, radius_in, unless_loose, unless_uncertain}
+use Rattle.fd_checking.specs.fd_enclosure.Sound.{Claim, certificate_of, claim_of, first_loose, greatest_mismatch}
+use Rattle.fd_checking.specs.fd_enclosure.Sound.{mismatch_at, mismatches_of, number_at, radii_of, radius_in}
+use Rattle.fd_checking.specs.fd_enclosure.Sound.{unless_loose, unless_uncertain}
 use Rattle.fd_checking.proofs.CallerLemmas.fd_enclosure.{all_narrow, claim_is, not_refused}
 use Rattle.fd_checking.specs.fd_certfile.Blocks.{Act, Block, IsSized, IsWritable, Part}
 use Rattle.fd_checking.specs.fd_certfile.Judging.{judge_of, names, refusal_in, sizes_of}
@@ -32,7 +37,8 @@ use Rattle.fd_checking.proofs.CallerLemmas.fd_solving.{IsSolutionPoint}
 -- ---- where a certificate isn't refused
 
 module _ (n : ℕ) (C J : ℕ → ℕ → ℤ) (R : ℕ → ℕ → ℕ) (w : ℕ → ℕ) where
-  by_none : (e : ℕ → ℕ) → first_unbounded n C J R w e ≡ None → first_wide n C J R w e ≡ None → refusal n C J R w e ≡ None
+  by_none : (e : ℕ → ℕ) → first_unbounded n C J R w e ≡ None → first_wide n C J R w e ≡ None
+      → refusal n C J R w e ≡ None
   unfolding refusal
   by_none e unbounded wide = ap (unless_unbounded n C J R w e) unbounded ∙ ap (unless_wide n C J R w e) wide
 
@@ -45,14 +51,19 @@ module _ (n : ℕ) (C J : ℕ → ℕ → ℤ) (R : ℕ → ℕ → ℕ) (w : �
         (λ l q. ap (λ m. nat_abs (C i l) * (2 * m)) (same l q))))
 
     unbounded_same : first_unbounded n C J R w e ≡ first_unbounded n C J R w f
-    unbounded_same = ap (λ r. first_place (λ i. not (is_below_one (cond (nat_le (w i * r) (2 ^ 120)) (bound_at n C J R w i) None))) n) reach_same
+    unbounded_same =
+        ap (λ r. first_place
+        (λ i. not (is_below_one (cond (nat_le (w i * r) (2 ^ 120)) (bound_at n C J R w i) None))) n) reach_same
 
     wide_same : first_wide n C J R w e ≡ first_wide n C J R w f
     unfolding radius_at
-    wide_same = ap (λ r. first_place (λ i. nat_lt (2 ^ 40) (ceil_nat (w i * r) (2 ^ 20 * (2 ^ 40 - bound_of n C J R w)))) n) reach_same
+    wide_same =
+        ap (λ r. first_place
+        (λ i. nat_lt (2 ^ 40) (ceil_nat (w i * r) (2 ^ 20 * (2 ^ 40 - bound_of n C J R w)))) n) reach_same
 
     pub still_none : refusal n C J R w e ≡ None → refusal n C J R w f ≡ None
-    still_none h = let none = not_refused n C J R w e h in by_none f (sym unbounded_same ∙ none.0) (sym wide_same ∙ none.1)
+    still_none h = let none =
+        not_refused n C J R w e h in by_none f (sym unbounded_same ∙ none.0) (sym wide_same ∙ none.1)
 
 -- ---- lists
 
@@ -113,7 +124,9 @@ module _ (v : NetworkView) (m : Claim) (at : IsSolutionPoint v m.centre m.invers
 
   tight : (l : ℕ) → l < v.size → mismatch_at v x l ≤ greatest_mismatch
   unfolding first_loose
-  tight l p = ltb-false greatest_mismatch (mismatch_at v x l) (none_holds (λ k. nat_lt greatest_mismatch (mismatch_at v x k)) v.size l loose p)
+  tight l p =
+      ltb-false greatest_mismatch (mismatch_at v x l)
+      (none_holds (λ k. nat_lt greatest_mismatch (mismatch_at v x k)) v.size l loose p)
 
   -- its numbers
 
@@ -137,23 +150,29 @@ module _ (v : NetworkView) (m : Claim) (at : IsSolutionPoint v m.centre m.invers
 
   radius_is : (i : ℕ) → i < v.size → number_at m.radii i ≡ radius_in v x m.inverse m.mismatches i
   unfolding radii_of
-  radius_is i p = ap (λ rs. number_at rs i) radii_are ∙ get_or-list_of v.size (radius_in v x m.inverse m.mismatches) i 0 p
+  radius_is i p =
+      ap (λ rs. number_at rs i) radii_are ∙ get_or-list_of v.size (radius_in v x m.inverse m.mismatches) i 0 p
 
   -- with its own mismatches it isn't refused
   own_certain : refused_by (number_at m.mismatches) ≡ None
-  own_certain = still_none v.size C (jacobian_entry v x) (slope_radius v x) (weight_at v x) (mismatch_at v x) (number_at m.mismatches)
+  own_certain =
+      still_none v.size C (jacobian_entry v x) (slope_radius v x) (weight_at v x) (mismatch_at v x)
+      (number_at m.mismatches)
       (λ l p. sym (mismatch_is l p)) certain
 
   radius_small : (i : ℕ) → i < v.size → number_at m.radii i ≤ 2 ^ 40
   radius_small i p = subst (λ (k : ℕ). k ≤ 2 ^ 40) (sym (radius_is i p))
-      (all_narrow v.size C (jacobian_entry v x) (slope_radius v x) (weight_at v x) (number_at m.mismatches) own_certain i p)
+      (all_narrow v.size C (jacobian_entry v x) (slope_radius v x) (weight_at v x)
+      (number_at m.mismatches) own_certain i p)
 
   centre_small : (i : ℕ) → i < v.size → nat_abs (part x i) ≤ 2 ^ 40
-  centre_small i p = part_small (part x i) (All-get_or IsPart x i (pos 0) (omega (arith, p, at.point.long)) at.point.parts)
+  centre_small i p =
+      part_small (part x i) (All-get_or IsPart x i (pos 0) (omega (arith, p, at.point.long)) at.point.parts)
 
   entries_small : (i : ℕ) → i < v.size → AllByRecursion (λ z. nat_abs z ≤ 2 ^ 56) (row_of m.inverse i)
   entries_small i p = all_by (λ z. nat_abs z ≤ 2 ^ 56) (pos 0) (row_of m.inverse i)
-      (λ j q. at.square.inverse.small i j (omega (arith, p, at.square.inverse.long)) (omega (arith, q, at.square.wide i p, at.square.inverse.long)))
+      (λ j q. at.square.inverse.small i j (omega (arith, p, at.square.inverse.long))
+      (omega (arith, q, at.square.wide i p, at.square.inverse.long)))
 
   -- ---- its block
 
@@ -193,13 +212,17 @@ module _ (v : NetworkView) (m : Claim) (at : IsSolutionPoint v m.centre m.invers
     sized = record {
       parts = length-list_of v.size (part_in m);
       rows = at.square.inverse.long;
-      entries = all_by (λ r. length r ≡ v.size) [] m.inverse (λ i l. at.square.wide i (omega (arith, l, at.square.inverse.long)));
+      entries = all_by (λ r. length r ≡ v.size) [] m.inverse
+          (λ i l. at.square.wide i (omega (arith, l, at.square.inverse.long)));
     }
 
     not_named : (i : ℕ) → names i (refusal_in v (rules.claim_of b)) ≡ false
     not_named i =
-        let F : List ℤ → List ℕ → Option (ℕ × Option ℤ) = λ y es. refusal v.size C (jacobian_entry v y) (slope_radius v y) (weight_at v y) (number_at es) in
-        ap (names i) (ap (λ y. F y (sizes_of (map (λ (p : Part). p.mismatch) parts_for))) centres_are ∙ ap (F x) sizes_back ∙ own_certain)
+        let F : List ℤ → List ℕ → Option (ℕ × Option ℤ) =
+        λ y es. refusal v.size C (jacobian_entry v y) (slope_radius v y) (weight_at v y) (number_at es) in
+        ap (names i)
+        (ap (λ y. F y (sizes_of (map (λ (p : Part). p.mismatch) parts_for))) centres_are ∙ ap (F x) sizes_back
+        ∙ own_certain)
 
     claimed_radius : (i : ℕ) → i < v.size
         → radius_in v (map (λ (p : Part). p.centre) parts_for) m.inverse
@@ -229,9 +252,11 @@ module _ (v : NetworkView) (m : Claim) (at : IsSolutionPoint v m.centre m.invers
         not_negative = subst (λ (q : Part). pos 0 ≤ℤ q.radius) (sym (part_is i p)) (omega (arith, ints));
         entries = entries_small i p;
       };
-      mismatch = λ i p. subst (λ (q : Part). (pos (mismatch_at v (map (λ (p : Part). p.centre) parts_for) i) ≤ℤ q.mismatch) ×
+      mismatch =
+          λ i p. subst (λ (q : Part). (pos (mismatch_at v (map (λ (p : Part). p.centre) parts_for) i) ≤ℤ q.mismatch) ×
           (q.mismatch ≤ℤ pos 1000)) (sym (part_is i p))
-          (within _ (number_at m.mismatches i) (claimed_mismatch i p) (subst (λ (k : ℕ). k ≤ 1000) (sym (mismatch_is i p)) (tight i p)));
+          (within _ (number_at m.mismatches i) (claimed_mismatch i p)
+          (subst (λ (k : ℕ). k ≤ 1000) (sym (mismatch_is i p)) (tight i p)));
       bound = λ i p. not_named i;
       radius = λ i p. subst (λ (q : Part). pos
           (radius_in v (map (λ (p : Part). p.centre) parts_for) m.inverse
@@ -245,10 +270,14 @@ module _ (v : NetworkView) (m : Claim) (at : IsSolutionPoint v m.centre m.invers
         → AllByRecursion (λ (a : Act). AllByRecursion IsNumber (a.time ∷ a.control ∷ a.steps ∷ [])) acts → IsWritable b
     writable a h r s each = record {
       due = (a, (h, (r, (s, tt))));
-      parts = all_of (λ (p : Part). AllByRecursion IsNumber (p.centre ∷ p.radius ∷ p.mismatch ∷ [])) (part_in m) 0 v.size (λ i l. (
-        number_is (part x i) (2 ^ 40) (centre_small i (omega (arith, l))) (omega arith),
-        (omega (arith, radius_small i (omega (arith, l))), (omega (arith, mismatch_is i (omega (arith, l)), tight i (omega (arith, l))), tt)),
-      ));
+      parts = all_of (λ (p : Part). AllByRecursion IsNumber (p.centre ∷ p.radius ∷ p.mismatch ∷ []))
+          (part_in m) 0 v.size (λ i l. (
+            number_is (part x i) (2 ^ 40) (centre_small i (omega (arith, l))) (omega arith),
+            (
+              omega (arith, radius_small i (omega (arith, l))),
+              (omega (arith, mismatch_is i (omega (arith, l)), tight i (omega (arith, l))), tt),
+            ),
+          ));
       inverse = all_by (AllByRecursion IsNumber) [] m.inverse
           (λ i l. all_number (row_of m.inverse i) (entries_small i (omega (arith, l, at.square.inverse.long))));
       acts = each;

@@ -1,5 +1,6 @@
 -- The history of `check` gathers circuits that can be solved, and judges the certificate on them.
-use Rattle.std.proofs.Common.{◌≡◌, ◌∙◌, ℕ, ◌+◌, ◌*◌, ◌≤◌, List, [], ◌∷◌, ◌++◌, length, Option, Some, None, Result, Ok, Err, All, arith, refl, sym, ap, subst}
+use Rattle.std.proofs.Common.{◌≡◌, ◌∙◌, ℕ, ◌+◌, ◌*◌, ◌≤◌, List, [], ◌∷◌, ◌++◌, length, Option, Some, None, Result, Ok}
+use Rattle.std.proofs.Common.{Err, All, arith, refl, sym, ap, subst}
 use Rattle.std.specs.Str.{chars}
 use Rattle.std.proofs.lemmas.List.{append_assoc, append-nil}
 use Rattle.std.proofs.lemmas.List.Elements.{All-append, All-cons, All-nil}
@@ -28,11 +29,13 @@ use Rattle.fd_checking.specs.fd_outcome.Events.{Event, History}
 use Rattle.fd_checking.specs.fd_outcome.History.{IsHistory}
 use Rattle.fd_checking.specs.fd_outcome.Work as work
 use Rattle.fd_checking.specs.fd_outcome.Work.{AfterStep, Step, goes}
-use Rattle.fd_checking.specs.fd_solving.Commands.{Applied, IsTested, bases_left, left_of, nothing_left, solve_left, tried}
+use Rattle.fd_checking.specs.fd_solving.Commands.{Applied, IsTested, bases_left, left_of, nothing_left, solve_left}
+use Rattle.fd_checking.specs.fd_solving.Commands.{tried}
 use Rattle.fd_checking.specs.fd_solving.Commands as commands
 use Rattle.fd_checking.specs.fd_solving.Weights.{weight}
 use Rattle.fd_checking.proofs.CallerLemmas.fd_solving.{verb_takes}
-use Rattle.fd_checking.specs.Checks.{CheckedLaw, GatheredView, IsCheckStep, IsFoundOf, IsGatheredBy, IsGatheredOf, IsJudged, certificate_name, gathered}
+use Rattle.fd_checking.specs.Checks.{CheckedLaw, GatheredView, IsCheckStep, IsFoundOf, IsGatheredBy, IsGatheredOf}
+use Rattle.fd_checking.specs.Checks.{IsJudged, certificate_name, gathered}
 use Rattle.fd_app.specs.Meaning.{IsCertificateOf, MeaningLaw}
 use Rattle.fd_app.specs.Solves.{behind_command, solves_from}
 use Rattle.fd_app.proofs.Certified.{CanBeSolved, solves_certified}
@@ -46,7 +49,8 @@ Leaves (solve_left d) new = d ≡ new
 Leaves (bases_left d) new = d ≡ new
 Leaves (commands.refused_at place c) new = ⊥
 
-left_by : (place : Place) (v : Verb) (r : Result CircuitView ModelFault) (new : CircuitView) → Leaves (left_of place v r) new
+left_by : (place : Place) (v : Verb) (r : Result CircuitView ModelFault) (new : CircuitView)
+    → Leaves (left_of place v r) new
     → r ≡ Ok new
 left_by place v (Err f) new h = absurd h
 left_by place verb.Bases (Ok d) new h = ap Ok h
@@ -116,17 +120,20 @@ module _ (limits : LimitsLaw) where
         let stands : t ≡ gathered d solved certificate = cc is in
         let left = left_by c.place c.verb (applied c circuit) d (subst (λ l. Leaves l d) (sym of) refl) in
         go d solved stands (room_left c more circuit d room left) all
-    by_left c more end circuit solved (commands.refused_at place x) of room all events t is go = absurd (let no : ⊥ = cc is in no)
+    by_left c more end circuit solved (commands.refused_at place x) of room all events t is go =
+        absurd (let no : ⊥ = cc is in no)
     by_left c more end circuit solved (solve_left d) of room all events t is go = by is.answer is.right is.step_is
       where
         left : HasRoom d more
-        left = room_left c more circuit d room (left_by c.place c.verb (applied c circuit) d (subst (λ l. Leaves l d) (sym of) refl))
+        left = room_left c more circuit d room
+            (left_by c.place c.verb (applied c circuit) d (subst (λ l. Leaves l d) (sym of) refl))
 
         by : (tests : Result Unit Blame) → IsTested d tests → IsGatheredBy d solved certificate tests (goes events t)
             → IsJudgedOn (solved ++ d ∷ solves_from more d)
         by (Ok done) passed step =
             let stands : t ≡ gathered d (solved ++ d ∷ []) certificate = cc step in
-            let one = All-cons CanBeSolved d [] (record { passed = passed; within = left.within }) (All-nil CanBeSolved) in
+            let one = All-cons CanBeSolved d [] (record { passed = passed; within = left.within })
+            (All-nil CanBeSolved) in
             subst IsJudgedOn (append_assoc solved (d ∷ []) (solves_from more d))
             (go d (solved ++ d ∷ []) stands left (All-append CanBeSolved solved (d ∷ []) all one))
         by (Err blame) right step = absurd (let no : ⊥ = cc step in no)
@@ -168,13 +175,16 @@ module _ (checked : CheckedLaw) (limits : LimitsLaw) (rooms : SaidRoomLaw) (law 
     certificate = h.certificate;
     version_is = h.version_is;
     reads = h.reads;
-    certified = solves_certified law sound_law kept_law modest_law hours_law next_law h.certificate solved all h.of_rounds;
+    certified = solves_certified law sound_law kept_law modest_law hours_law next_law h.certificate solved all
+        h.of_rounds;
   }
 
   pub accepted : MeaningLaw
   accepted files script file h is none =
       let p = said_of files (chars script) in
-      let room : HasRoom empty_circuit p.said = record { room = omega (arith, rooms files (chars script)); within = none_within } in
-      let on = judged_on limits (λ n. held files (bytes n)) (chars file) p.said (ended_by p.left) empty_circuit [] h is none
+      let room : HasRoom empty_circuit p.said =
+      record { room = omega (arith, rooms files (chars script)); within = none_within } in
+      let on = judged_on limits (λ n. held files (bytes n)) (chars file) p.said
+      (ended_by p.left) empty_circuit [] h is none
       room (All-nil CanBeSolved) in
       of_found _ _ on.all (checked _ _ on.more on.judged on.well)

@@ -21,14 +21,15 @@ use Rattle.fd_checking.specs.fd_settle.Plant.{Plant, network_at}
 use Rattle.fd_checking.specs.fd_settle.Rounds.{AtEach, after_round}
 use Rattle.fd_checking.specs.fd_outcome.Events as event
 use Rattle.fd_checking.specs.fd_outcome.Settles.{Settle}
-use Rattle.fd_checking.specs.fd_outcome.Events.{Event, History, IfSettle, asked, settle, row}
-use Rattle.fd_checking.specs.fd_solving.Headline.{EnclosesAll, EnclosesAllSizes, IsSolution, IsSolved, claims_of, machine_of}
+use Rattle.fd_checking.specs.fd_outcome.Events.{AllSettles, Event, History, IfSettle, asked, settle, row}
+use Rattle.fd_checking.specs.fd_solving.Headline.{EnclosesAll, EnclosesAllSizes, IsSolution, IsSolved, claims_of}
+use Rattle.fd_checking.specs.fd_solving.Headline.{machine_of}
 use Rattle.fd_checking.specs.fd_solving.Scripts.{IsScriptHistory, first_standing}
 use Rattle.fd_checking.specs.fd_solving.SolvedLaw.{SolvedLaw}
 use Rattle.fd_app.specs.Meaning.{MeaningLaw}
 use Rattle.fd_shorting.specs.StudiedLaw.{StudiedLaw}
 use Rattle.fd_shorting.specs.Studies.{IsStudy}
-use Rattle.fd_sweeping.specs.Agreements.{IsSweptSettle}
+use Rattle.fd_sweeping.specs.Agreements.{HaveSweeps}
 use Rattle.fd_sweeping.specs.SweptLaw.{SweptLaw}
 use Rattle.fd_app.specs.Printing.{outside_of}
 use Rattle.fd_app.specs.Promise.{AreTrue, IsPromised, IsTrue}
@@ -41,7 +42,8 @@ use Rattle.fd_app.proofs.Steadily.{script_steady}
 
 -- ---- each round
 
-each_weaker : (P Q : Positions → Claim → Type 0) → ((at : Positions) (m : Claim) → P at m → Q at m) → (p : Plant) (k : Machine) (ms : List Claim)
+each_weaker : (P Q : Positions → Claim → Type 0) → ((at : Positions) (m : Claim) → P at m → Q at m)
+    → (p : Plant) (k : Machine) (ms : List Claim)
     → AtEach P p k ms → AtEach Q p k ms
 each_weaker P Q f p k [] h = tt
 each_weaker P Q f p k (m ∷ ms) h = (f k.at m h.0, each_weaker P Q f p (after_round p k m) ms h.1)
@@ -50,6 +52,8 @@ if_settle : (P Q : Settle → Type 0) → ((s : Settle) → P s → Q s) → (e 
 if_settle P Q f (settle s) h = f s h
 if_settle P Q f (asked n) h = tt
 if_settle P Q f (row fields) h = tt
+if_settle P Q f (event.waits c es) h = tt
+if_settle P Q f (event.swept c m l) h = tt
 if_settle P Q f (event.line t) h = tt
 
 each_round : (P : CircuitView → ℕ → Positions → Claim → Type 0)
@@ -73,7 +77,8 @@ each_studied P Q of f events all =
     (plant_at s.circuit s.hour) (machine_of s) (claims_of s) (of s study)) e)
     events all
 
-meets_equations : (c : CircuitView) (hour : ℕ) (at : Positions) (m : Claim) → IsSolution c hour at m → MeetsEquations c hour at m
+meets_equations : (c : CircuitView) (hour : ℕ) (at : Positions) (m : Claim) → IsSolution c hour at m
+    → MeetsEquations c hour at m
 unfolding network_at
 meets_equations c hour at m is = record { meets = is.meets; most = λ row low. is.sound.mismatches_most row low }
 
@@ -94,27 +99,21 @@ studied_true events all = record {
   exact = each_studied IsExact IsSolution (λ s study. study.solved.solutions) is_exact events all;
 }
 
-solved_too : (e : Event) → IfSettle IsSweptSettle e → IfSettle IsSolved e
-solved_too (settle s) swept = swept.solved
-solved_too (asked n) swept = tt
-solved_too (row fields) swept = tt
-solved_too (event.line t) swept = tt
-
-swept_true : (events : List Event) → All (IfSettle IsSweptSettle) events → AreSwept events
-swept_true events swept =
-    let all = All-weaker (IfSettle IsSweptSettle) (IfSettle IsSolved) solved_too events swept in
-    record {
-      equations = each_round MeetsEquations meets_equations events all;
-      enclosed = each_round _ (λ c hour at m is. is.encloses) events all;
-      sizes = each_round _ (λ c hour at m is. is.sizes) events all;
-      linear = each_round EnclosesLinear (λ c hour at m is. record { all = is.encloses_all; sizes = is.sizes_of_all }) events all;
-      exact = each_round IsExact is_exact events all;
-      swept = swept;
-    }
+swept_true : (events : List Event) → AllSettles IsSolved events → HaveSweeps events → AreSwept events
+swept_true events all sweeps = record {
+  equations = each_round MeetsEquations meets_equations events all;
+  enclosed = each_round _ (λ c hour at m is. is.encloses) events all;
+  sizes = each_round _ (λ c hour at m is. is.sizes) events all;
+  linear = each_round EnclosesLinear
+      (λ c hour at m is. record { all = is.encloses_all; sizes = is.sizes_of_all }) events all;
+  exact = each_round IsExact is_exact events all;
+  sweeps = sweeps;
+}
 
 -- ---- a history
 
-module _ (swept : SweptLaw) (studied : StudiedLaw) (solved : SolvedLaw) (passed : PassedLaw) (rules : RuleLaw) (certificates : CertificateLaw) (meaning : MeaningLaw) where
+module _ (swept : SweptLaw) (studied : StudiedLaw) (solved : SolvedLaw) (passed : PassedLaw) (rules : RuleLaw)
+    (certificates : CertificateLaw) (meaning : MeaningLaw) where
   script_true : (files : Files) (name : List ℕ) (h : History) → IsScriptHistory files (said_of files name) h
       → AreTrue (said_of files name) h.events
   script_true files name h is =
@@ -124,24 +123,32 @@ module _ (swept : SweptLaw) (studied : StudiedLaw) (solved : SolvedLaw) (passed 
         equations = each_round MeetsEquations meets_equations h.events all;
         enclosed = each_round _ (λ c hour at m is. is.encloses) h.events all;
         sizes = each_round _ (λ c hour at m is. is.sizes) h.events all;
-        linear = each_round EnclosesLinear (λ c hour at m is. record { all = is.encloses_all; sizes = is.sizes_of_all }) h.events all;
-        acts = script_steady passed files p.said (ended_by p.left) first_standing h is (recursion_from_All (IfSettle IsSolved) h.events all);
+        linear = each_round EnclosesLinear
+            (λ c hour at m is. record { all = is.encloses_all; sizes = is.sizes_of_all }) h.events all;
+        acts = script_steady passed files p.said (ended_by p.left) first_standing h is
+            (recursion_from_All (IfSettle IsSolved) h.events all);
         exact = each_round IsExact is_exact h.events all;
       }
 
   history_true : (files : Files) (form : Option Form) (h : History) → IsFormHistory files form h → IsTrue files form h
   history_true files None h is = tt
   history_true files (Some (Solve file)) h is = script_true files (chars file) h is
-  history_true files (Some (Cert file)) h is =
-      (script_true files (chars file) h is, λ none. cert_is_accepted rules passed certificates solved files (chars file) h is none)
+  history_true files (Some (Cert file)) h is = (
+    script_true files (chars file) h is,
+    λ none. cert_is_accepted rules passed certificates solved files
+        (chars file) h is none,
+  )
   history_true files (Some (Check script name)) h is = λ none. meaning files script name h is none
   history_true files (Some (Gen number sections)) h is = tt
   history_true files (Some (Fault master bus kind)) h is =
       studied_true h.events (studied files (chars master) (chars bus) (kind_of kind) h is)
-  history_true files (Some (Ladder master)) h is = swept_true h.events (swept files (chars master) h is)
+  history_true files (Some (Ladder master)) h is =
+      let true_of = swept files (chars master) h is in
+      swept_true h.events true_of.0 true_of.1
   history_true files (Some (Upgrade name)) h is = λ none solved_of answer.
       upgrade_answers due after files (chars name) h is none (open_solves solved_of no_positions 0) answer
-  history_true files (Some (Bench number sections)) h is = λ solving right. script_true (feeder_files number sections) (chars feeder_name) solving right
+  history_true files (Some (Bench number sections)) h is =
+      λ solving right. script_true (feeder_files number sections) (chars feeder_name) solving right
 
   -- ---- a run
 

@@ -9,7 +9,8 @@ use Rattle.fd_checking.specs.fd_outcome.Calls.{body, certificate, doing, report}
 use Rattle.fd_checking.specs.fd_outcome.Events.{History, ended}
 use Rattle.fd_checking.specs.fd_outcome.Way.{whole}
 use Rattle.fd_checking.specs.fd_outcome.Laws.{IsDue}
-use Rattle.fd_checking.proofs.CallerLemmas.fd_outcome.{IsToldBy, all_told, exactly_this, not_empty, run_due, sees_none, told_fault}
+use Rattle.fd_checking.proofs.CallerLemmas.fd_outcome.{IsToldBy, all_told, exactly_this, not_empty, run_due, sees_none}
+use Rattle.fd_checking.proofs.CallerLemmas.fd_outcome.{told_fault}
 use Rattle.fd_checking.proofs.CallerLemmas.fd_solving.{one_script}
 use Rattle.fd_checking.proofs.CallerLemmas.{check_tells, one_check}
 use Rattle.fd_bench.specs.Bench.{script_written}
@@ -65,14 +66,16 @@ module _ {L S : Type 0} (answers : L → List Answer) (taken : S → List ℕ) (
         done = inr (
           inl (record { rest = (doing (manner_of form).style h).calls; calls = refl; torn = refl; status_is = refl }),
           λ told none.
-              all_told (manner_of form).style (manner_of form).tells h.events h.end told (form_tells files form h one.is) (sym none),
+              all_told (manner_of form).style (manner_of form).tells h.events h.end told
+              (form_tells files form h one.is) (sym none),
         );
         sees = sees_none answers taken calls lib out;
       }
 
 -- ---- over a library that tells what it holds
 
-agrees_if : (asks : Bool) (before now : List Answer) (files : Files) → AgreesSince files before now → AgreesIf asks before now files
+agrees_if : (asks : Bool) (before now : List Answer) (files : Files) → AgreesSince files before now
+    → AgreesIf asks before now files
 agrees_if true before now files agrees = agrees
 agrees_if false before now files agrees = tt
 
@@ -87,7 +90,8 @@ module _ {L S : Type 0} (answers : L → List Answer) (holds : L → Option File
 
 -- what is printed, as what is done over what was answered and taken
 runs_as : (o : Outside) (files : Files) (form : Option Form) (code : ℕ) → IsPromised o files form code
-    → RunsOver {L = List Answer} {S = List ℕ × ℕ} (λ a. a) (λ s. s.0) (λ s. s.1) files form o.answers_before o.answers_now
+    → RunsOver {L = List Answer} {S = List ℕ × ℕ} (λ a. a) (λ s. s.0)
+    (λ s. s.1) files form o.answers_before o.answers_now
     (o.taken_before, o.writes_before) (o.taken_now, o.writes_now) code
 runs_as o files form code p = record {
   history = p.history;
@@ -103,6 +107,8 @@ pub due : (files : Files) (form : Option Form) (h : History) (o : Outside) (code
     → IsPromised o files form code → IsDue h.end code o.answers_before o.answers_now
 due files form h o code right p =
     let one = forms files form in
-    let all = run_due {L = List Answer} {S = List ℕ × ℕ} (λ a. a) (λ s. s.0) (λ s. s.1) (λ x. IsFormHistory files form x) (manner_of form).style (manner_of form).tells
-    o.answers_before o.answers_now (o.taken_before, o.writes_before) (o.taken_now, o.writes_now) code one (runs_as o files form code p) in
+    let all = run_due {L = List Answer} {S = List ℕ × ℕ} (λ a. a) (λ s. s.0) (λ s. s.1)
+    (λ x. IsFormHistory files form x) (manner_of form).style (manner_of form).tells
+    o.answers_before o.answers_now (o.taken_before, o.writes_before) (o.taken_now, o.writes_now) code one
+    (runs_as o files form code p) in
     subst (λ (x : History). IsDue x.end code o.answers_before o.answers_now) (sym (one.only h right)) all

@@ -1,5 +1,6 @@
 -- The hours of a Solve: the blocks of their settles hold, and lead to what comes behind the Solve.
-use Rattle.std.proofs.Common.{◌≡◌, ◌∙◌, ℕ, suc, ◌+◌, ◌<◌, ◌^◌, List, [], ◌∷◌, ◌++◌, length, map, refl, sym, ap, subst, arith}
+use Rattle.std.proofs.Common.{◌≡◌, ◌∙◌, ℕ, suc, ◌+◌, ◌<◌, ◌^◌, List, [], ◌∷◌, ◌++◌, length, map, refl, sym, ap, subst}
+use Rattle.std.proofs.Common.{arith}
 use Rattle.std.specs.List.{AllByRecursion}
 use Rattle.std.proofs.lemmas.List.{append_assoc, append-nil, length-append}
 use Rattle.fd_checking.specs.dss_circuit.Circuit.{CircuitView}
@@ -15,13 +16,11 @@ use Rattle.fd_checking.specs.fd_certfile.Certificates.{Certificate, gives}
 use Rattle.fd_checking.specs.fd_certfile.Verdict.{AllHold}
 use Rattle.fd_checking.specs.fd_check.Checking.{Checking, after, due, open_hours, open_solves}
 use Rattle.fd_checking.specs.fd_outcome.Certificates.{blocks_from, blocks_of}
-use Rattle.fd_checking.specs.fd_outcome.Events.{Event, IfSettle, row, settle}
-use Rattle.fd_checking.specs.fd_outcome.Pages.{controls_of}
+use Rattle.fd_checking.specs.fd_outcome.Events.{Event, IfSettle, settle, waits}
 use Rattle.fd_checking.specs.fd_outcome.Settles.{Round, Settle, SettleEnd, settled, failed, without_certificate}
 use Rattle.fd_checking.specs.fd_outcome.Work.{Step, goes, ends}
 use Rattle.fd_checking.specs.fd_daily.Underway.{plant_at}
 use Rattle.fd_checking.specs.fd_pages.Hours.{Kept, hour_settle}
-use Rattle.fd_checking.specs.fd_pages.Pending.{pending_events, pending_rows}
 use Rattle.fd_checking.specs.fd_solving.Solving.{IsBehind, IsEndBy, IsHour, IsHoursStep, begun_by, kept_by, rounds_of}
 use Rattle.fd_checking.specs.fd_solving.Steps.{StandingView, behind_events, standing}
 use Rattle.fd_checking.specs.fd_solving.Headline.{HasModestNumbers}
@@ -71,7 +70,9 @@ none_printed = record { no_lines = tt; fit = λ h. tt; counted = refl }
 
 all_rounds_both : (a b : List Event) → all_rounds (a ++ b) ≡ all_rounds a ++ all_rounds b
 all_rounds_both [] b = refl
-all_rounds_both (e ∷ a) b = ap (λ (rs : List Round). rounds_in e ++ rs) (all_rounds_both a b) ∙ sym (append_assoc (rounds_in e) (all_rounds a) (all_rounds b))
+all_rounds_both (e ∷ a) b =
+    ap (λ (rs : List Round). rounds_in e ++ rs) (all_rounds_both a b)
+    ∙ sym (append_assoc (rounds_in e) (all_rounds a) (all_rounds b))
 
 pub count_both : (a b : List Event) → count_rounds (a ++ b) ≡ count_rounds a + count_rounds b
 count_both a b = ap length (all_rounds_both a b) ∙ length-append (all_rounds a) (all_rounds b)
@@ -81,7 +82,8 @@ both_printed a b p q = record {
   no_lines = both_all IsNoLine a b p.no_lines q.no_lines;
   fit = λ h. subst (AllByRecursion IsFit) (sym (all_blocks a b)) (both_all IsFit (blocks_in a) (blocks_in b)
       (p.fit (left_all (IfSettle HasModestNumbers) a b h)) (q.fit (right_all (IfSettle HasModestNumbers) a b h)));
-  counted = ap length (all_blocks a b) ∙ length-append (blocks_in a) (blocks_in b) ∙ added p.counted q.counted ∙ sym (count_both a b);
+  counted = ap length (all_blocks a b) ∙ length-append (blocks_in a) (blocks_in b) ∙ added p.counted q.counted
+      ∙ sym (count_both a b);
 }
   where
     added : {m n k l : ℕ} → m ≡ n → k ≡ l → m + k ≡ n + l
@@ -100,7 +102,8 @@ module _ (c : CircuitView) where
   ended_well hour (stopped (range blame)) n end h e = absurd (let no : ⊥ = cc in no)
   ended_well hour (stopped (procedure (solving.NoInverse column stop))) n end h e = absurd (let no : ⊥ = cc in no)
   ended_well hour (stopped (procedure (solving.OutOfRange place step))) n end h e = absurd (let no : ⊥ = cc in no)
-  ended_well hour (stopped (procedure (solving.NotConverged place steps update))) n end h e = absurd (let no : ⊥ = cc in no)
+  ended_well hour (stopped (procedure (solving.NotConverged place steps update))) n end h e =
+      absurd (let no : ⊥ = cc in no)
   ended_well hour (stopped (procedure solving.NoMemory)) n end h e = absurd h
   ended_well hour (stopped (uncertified (loose at mismatch))) n end h e = absurd (let no : ⊥ = cc in no)
   ended_well hour (stopped (uncertified (uncertain place bound))) n end h e = absurd (let no : ⊥ = cc in no)
@@ -119,7 +122,8 @@ module _ (c : CircuitView) where
 
     -- an hour before those
     module _ (hour : ℕ) (hours : List ℕ) (l : Kept) (rounds : List (Claim × List Act)) (n : Machine)
-        (computed : IsComputedFrom (limits_of c.options) (plant_at c hour) (begun_by c hour l).machine rounds (ended Settled) n)
+        (computed : IsComputedFrom (limits_of c.options) (plant_at c hour) (begun_by c hour l).machine rounds
+        (ended Settled) n)
         (events : List Event) (t : StandingView) (rest : HoursHold hours (kept_by l n) events t) where
       abbrev x : Settle
       x = hour_settle c hour (begun_by c hour l) (rounds_of rounds) settled n.at
@@ -130,22 +134,26 @@ module _ (c : CircuitView) where
 
       one_fit : HasModestNumbers x → AllByRecursion IsFit (blocks_of x)
       one_fit modest =
-          rounds_fit x hours more (limits_of c.options) n (ended Settled) (omega (arith, modest.number)) (omega (arith, modest.hour)) size rounds 0
+          rounds_fit x hours more (limits_of c.options) n (ended Settled) (omega (arith, modest.number))
+          (omega (arith, modest.hour)) size rounds 0
           (begun_by c hour l).machine computed (omega (arith, modest.few, many_rounds rounds)) modest.acts
 
       hour_printed : IsPrinted (settle x ∷ events)
       hour_printed = both_printed (settle x ∷ []) events (record {
         no_lines = (tt, tt);
         fit = λ h. both_all IsFit (blocks_of x) [] (one_fit h.0) tt;
-        counted = ap length (append-nil (blocks_of x)) ∙ many_from x 0 (rounds_of rounds) ∙ ap length (sym (append-nil (rounds_of rounds)));
+        counted = ap length (append-nil (blocks_of x)) ∙ many_from x 0 (rounds_of rounds)
+            ∙ ap length (sym (append-nil (rounds_of rounds)));
       }) rest.printed
 
       hour_before : HoursHold (hour ∷ hours) l (settle x ∷ events) t
       hour_before = record {
         circuit = rest.circuit;
         printed = hour_printed;
-        hold = λ last h. subst (λ (k : Certificate). AllHold due after k (opens (hour ∷ hours) l)) (sym (before_both (blocks_of x) (blocks_in events) last))
-            (rounds_hold x hours more (limits_of c.options) n (before (blocks_in events) last) (rest.hold last h) rounds 0 (begun_by c hour l).machine computed);
+        hold = λ last h. subst (λ (k : Certificate). AllHold due after k (opens (hour ∷ hours) l))
+            (sym (before_both (blocks_of x) (blocks_in events) last))
+            (rounds_hold x hours more (limits_of c.options) n (before (blocks_in events) last)
+            (rest.hold last h) rounds 0 (begun_by c hour l).machine computed);
       }
 
     hour_goes : (hour : ℕ) (hours : List ℕ) (l : Kept) (made : Settle) (kept : Kept) → IsHour c hour l made kept
@@ -158,40 +166,37 @@ module _ (c : CircuitView) where
         let computed = subst (λ (e : Ending). IsComputedFrom (limits_of c.options) (plant_at c hour)
         (begun_by c hour l).machine is.rounds e is.machine) ending is.computed in
         let made_is : hour_settle c hour (begun_by c hour l) (rounds_of is.rounds) settled is.machine.at ≡ made =
-        ap (λ (e : SettleEnd). hour_settle c hour (begun_by c hour l) (rounds_of is.rounds) e is.machine.at) (sym end_is) ∙ sym is.settle_is in
+        ap (λ (e : SettleEnd). hour_settle c hour (begun_by c hour l) (rounds_of is.rounds) e is.machine.at)
+        (sym end_is) ∙ sym is.settle_is in
         subst (λ (s : Settle). HoursHold (hour ∷ hours) l (settle s ∷ events) t) made_is
-        (hour_before hour hours l is.rounds is.machine computed events t (subst (λ (k : Kept). HoursHold hours k events t) is.kept rest))
+        (hour_before hour hours l is.rounds is.machine computed events t
+        (subst (λ (k : Kept). HoursHold hours k events t) is.kept rest))
 
     -- ---- the hours
 
     -- the entries that still wait are no blocks
-    rows_printed : (rows : List (List (List ℕ))) → IsPrinted (map row rows) × (blocks_in (map row rows) ≡ [])
-    rows_printed [] = (none_printed, refl)
-    rows_printed (r ∷ rows) =
-        let rest = rows_printed rows in
-        (record { no_lines = (tt, rest.0.no_lines); fit = λ h. rest.0.fit h.1; counted = rest.0.counted }, rest.1)
-
-    no_hours : (l : Kept) → HoursHold [] l (pending_events c l.machine.queue) (standing c l.machine.at l.settled)
-    no_hours l =
-        let rows = rows_printed (pending_rows (controls_of c.elements) l.machine.queue) in
-        record {
-          circuit = refl;
-          printed = rows.0;
-          hold = λ last h. subst (λ (bs : List Block). AllHold due after (before bs last) (opens [] l)) (sym rows.1) h;
-        }
+    no_hours : (l : Kept) → HoursHold [] l (waits c l.machine.queue ∷ []) (standing c l.machine.at l.settled)
+    no_hours l = record {
+      circuit = refl;
+      printed = record { no_lines = (tt, tt); fit = λ h. tt; counted = refl };
+      hold = λ last h. h;
+    }
 
     abbrev Again : List ℕ → Kept → Type 0
-    Again hours kept = (rest : Step StandingView) → IsHoursStep c hours kept rest → (es : List Event) (u : StandingView) → rest ≡ goes es u
+    Again hours kept =
+        (rest : Step StandingView) → IsHoursStep c hours kept rest → (es : List Event) (u : StandingView)
+        → rest ≡ goes es u
         → HoursHold hours kept es u
 
     pub hours_step : (hours : List ℕ) (l : Kept) (step : Step StandingView) → IsHoursStep c hours l step
         → (events : List Event) (t : StandingView) → step ≡ goes events t → HoursHold hours l events t
     hours_step [] l step h events t e =
-        let es : pending_events c l.machine.queue ≡ events = cc in
+        let es : waits c l.machine.queue ∷ [] ≡ events = cc in
         let ts : standing c l.machine.at l.settled ≡ t = cc in
         subst (λ (u : StandingView). HoursHold [] l events u) ts
         (subst (λ (q : List Event). HoursHold [] l q (standing c l.machine.at l.settled)) es (no_hours l))
-    hours_step (hour ∷ hours) l step h events t e = by h.made.end refl h.goes_on (λ rest right es u same. hours_step hours h.kept rest right es u same)
+    hours_step (hour ∷ hours) l step h events t e =
+        by h.made.end refl h.goes_on (λ rest right es u same. hours_step hours h.kept rest right es u same)
       where
         behind : h.made.end ≡ settled → (rest : Step StandingView) → IsHoursStep c hours h.kept rest
             → step ≡ behind_events (settle h.made ∷ []) rest → Again hours h.kept → HoursHold (hour ∷ hours) l events t

@@ -1,6 +1,7 @@
 -- The acts of a history are those of any states that solve its rounds, through all hours of all Solves, and so are the
 -- entries that wait at the end of a Solve.
-use Rattle.std.proofs.Common.{◌≡◌, ◌∙◌, ◌⊎◌, ℕ, ◌+◌, List, [], ◌∷◌, ◌++◌, map, Option, Some, None, Result, Ok, Err, refl, sym, ap, subst, inl, inr}
+use Rattle.std.proofs.Common.{◌≡◌, ◌∙◌, ◌⊎◌, ℕ, ◌+◌, List, [], ◌∷◌, ◌++◌, map, Option, Some, None, Result, Ok, Err}
+use Rattle.std.proofs.Common.{refl, sym, ap, subst, inl, inr}
 use Rattle.std.specs.List.{AllByRecursion}
 use Rattle.std.proofs.lemmas.List.{append-nil}
 use Rattle.fd_checking.specs.dss_model.Names.{bytes}
@@ -29,33 +30,35 @@ use Rattle.fd_checking.specs.fd_settle.Rounds.{AtEach, left_by}
 use Rattle.fd_checking.specs.fd_settle.Sampling.{Decided, Sampling, Unclear, look_at, look_over}
 use Rattle.fd_checking.specs.fd_settle.Settle.{Open, Settled, Limited, Undecidable, Outcome, Ends, Moves, outcome_of}
 use Rattle.fd_checking.specs.fd_certfile.Rules.{moves}
-use Rattle.fd_checking.specs.fd_check.Checking.{Checking, Settling, act_due, behind_round, open_hours, open_solves, sampled_by, under_way}
+use Rattle.fd_checking.specs.fd_check.Checking.{Checking, Settling, act_due, behind_round, open_hours, open_solves}
+use Rattle.fd_checking.specs.fd_check.Checking.{sampled_by, under_way}
 use Rattle.fd_checking.specs.fd_daily.Underway.{plant_at}
 use Rattle.fd_checking.specs.fd_outcome.Events.{Event, History, IfSettle, settle, row}
-use Rattle.fd_checking.specs.fd_outcome.Pages.{controls_of}
 use Rattle.fd_checking.specs.fd_outcome.History.{IsHistory}
 use Rattle.fd_checking.specs.fd_outcome.Parts.{events_in}
-use Rattle.fd_checking.specs.fd_outcome.Settles.{Settle, SettleEnd, claim_in, failed, round_of, settled, without_certificate}
+use Rattle.fd_checking.specs.fd_outcome.Settles.{Settle, SettleEnd, claim_in, failed, round_of, settled}
+use Rattle.fd_checking.specs.fd_outcome.Settles.{without_certificate}
 use Rattle.fd_checking.specs.fd_outcome.Work as work
 use Rattle.fd_checking.specs.fd_outcome.Work.{AfterStep, Step, goes}
 use Rattle.fd_checking.specs.fd_pages.Bases.{base_events}
 use Rattle.fd_checking.specs.fd_pages.Hours.{Kept, hour_settle}
-use Rattle.fd_checking.specs.fd_pages.Pending.{pending_rows}
-use Rattle.fd_checking.specs.fd_solving.Commands.{Applied, nothing_left, solve_left, bases_left, IsByTests, IsStepOf, IsTested, tried}
+use Rattle.fd_checking.specs.fd_solving.Commands.{Applied, nothing_left, solve_left, bases_left, IsByTests, IsStepOf}
+use Rattle.fd_checking.specs.fd_solving.Commands.{IsTested, tried}
 use Rattle.fd_checking.specs.fd_solving.Commands as commands
 use Rattle.fd_checking.specs.fd_solving.Headline.{AreAlike, DecidesAlike, IsSolved}
 use Rattle.fd_checking.specs.fd_solving.Scripts.{IsDoneThere, no_name}
 use Rattle.fd_checking.specs.fd_solving.Commands.{IsStep}
-use Rattle.fd_checking.specs.fd_solving.Solving.{IsBehind, IsEndBy, IsHour, IsHoursStep, IsSolutionStep, begun_by, kept_by, kept_first, rounds_of}
+use Rattle.fd_checking.specs.fd_solving.Solving.{IsBehind, IsEndBy, IsHour, IsHoursStep, IsSolutionStep, begun_by}
+use Rattle.fd_checking.specs.fd_solving.Solving.{kept_by, kept_first, rounds_of}
 use Rattle.fd_checking.specs.fd_solving.Steps.{StandingView, behind_events, standing}
 use Rattle.fd_checking.proofs.CallerLemmas.fd_solving.{nothing_due}
 use Rattle.fd_app.specs.Solves.{behind_command, solves_from}
 use Rattle.fd_app.specs.Steady.{AreSteady, AreSteadyFrom, IsLastOfFault, Solves, outcome_at}
-use Rattle.fd_app.specs.Waiting.{IsEnd, Left, left_at_end, pending_first, queue_behind}
+use Rattle.fd_app.specs.Waiting.{IsEnd, Left, left_at_end, queue_behind, waiting_behind}
 use Rattle.fd_app.proofs.Settles.{at_round, behind_it}
 use Rattle.fd_app.proofs.Solves.{ended_well, left_all, right_all}
 use Rattle.fd_app.proofs.Scripts.{solve_circuit}
-use Rattle.fd_app.proofs.Waiting.{bases_first, none_behind, pending_before, rests}
+use Rattle.fd_app.proofs.Waiting.{none_behind, rests}
 
 -- ---- the rounds of a settle
 
@@ -65,14 +68,16 @@ left_with hours n = Some (record { machine = n; hours = hours })
 
 module _ (x : Settle) (hours : List ℕ) (more : List CircuitView) (limits : Limits) (n : Machine) (ending : Ending)
     (rest : Option Left → Checking → Type 0) (well : x.end ≡ settled → ending ≡ ended Settled)
-    (at_end : (l : Option Left) (t : Checking) → ending ≡ ended Settled → NothingDue (setup_of x.circuit) n → l ≡ left_with hours n
+    (at_end : (l : Option Left) (t : Checking) → ending ≡ ended Settled → NothingDue (setup_of x.circuit) n
+    → l ≡ left_with hours n
     → t ≡ behind_it x hours more n → rest l t)
     (at_fault : (t : Checking) → (ending ≡ ended Settled → ⊥) → rest None t) where
   abbrev Computed : Machine → List (Claim × List Act) → Type 0
   Computed m rounds = IsComputedFrom limits (plant_at x.circuit x.hour) m rounds ending n
 
   abbrev AlikeFrom : Machine → List (Claim × List Act) → Type 0
-  AlikeFrom m rounds = AtEach (DecidesAlike x.circuit x.hour) (plant_at x.circuit x.hour) m (map claim_in (rounds_of rounds))
+  AlikeFrom m rounds =
+      AtEach (DecidesAlike x.circuit x.hour) (plant_at x.circuit x.hour) m (map claim_in (rounds_of rounds))
 
   abbrev SteadyFrom : ℕ → List (Claim × List Act) → Option Left → Checking → Type 0
   SteadyFrom k rounds l t = AreSteadyFrom x k (rounds_of rounds) l rest t
@@ -81,7 +86,8 @@ module _ (x : Settle) (hours : List ℕ) (more : List CircuitView) (limits : Lim
   none_ended m h e = subst (λ (q : Ending). IsComputedFrom limits (plant_at x.circuit x.hour) m [] q n) e h
 
   module _ (k : ℕ) (m : Machine) (r : Claim × List Act) (later : List (Claim × List Act))
-      (next : (j : Machine) → Computed j later → AlikeFrom j later → SteadyFrom (k + 1) later None (under_way (at_round x hours more (k + 1) j)))
+      (next : (j : Machine) → Computed j later → AlikeFrom j later
+      → SteadyFrom (k + 1) later None (under_way (at_round x hours more (k + 1) j)))
       (y : State) where
     abbrev s : Settling
     s = at_round x hours more k m
@@ -102,13 +108,15 @@ module _ (x : Settle) (hours : List ℕ) (more : List CircuitView) (limits : Lim
       fault = λ e. ill (sym is ∙ well e);
     })
 
-    comes_to : (o : Outcome) → outcome_at s y ≡ o → Follows o r.1 later ending n (λ j. Computed j later) → AlikeFrom (left_by o) later
+    comes_to : (o : Outcome) → outcome_at s y ≡ o → Follows o r.1 later ending n (λ j. Computed j later)
+        → AlikeFrom (left_by o) later
         → Comes
     comes_to (Ends Settled j) e f alike = inr (
       ap sampled_by e ∙ ap (λ (acts : List Act). moves (map act_due acts)) (sym f.0),
       subst (λ (rounds : List (Claim × List Act)). SteadyBehind rounds (outcome_at s y)) (sym f.1.0)
           (at_end (left_at_end hours (outcome_at s y)) (behind_round s (outcome_at s y)) f.1.1.0
-          (subst (NothingDue (setup_of x.circuit)) (sym f.1.1.1) (nothing_due (setup_of x.circuit) m j (look_at (controls_in x.circuit) m.at y) e))
+          (subst (NothingDue (setup_of x.circuit)) (sym f.1.1.1)
+          (nothing_due (setup_of x.circuit) m j (look_at (controls_in x.circuit) m.at y) e))
           (ap (left_at_end hours) e ∙ ap (left_with hours) (sym f.1.1.1))
           (ap (behind_round s) e ∙ ap (behind_it x hours more) (sym f.1.1.1))),
     )
@@ -126,22 +134,18 @@ module _ (x : Settle) (hours : List ℕ) (more : List CircuitView) (limits : Lim
         → AlikeFrom (left_by (outcome_of (setup_of x.circuit) m w)) later → Comes
     comes (Unclear i u) is decides solves f alike = is_last (ended (Undecidable i u)) (λ e. cc e) f.0 f.1.0 f.1.1.0
     comes (Decided ds) is decides solves f alike =
-        comes_to (outcome_of (setup_of x.circuit) m (Decided ds)) (ap (outcome_of (setup_of x.circuit) m) (decides y ds solves is)) f alike
+        comes_to (outcome_of (setup_of x.circuit) m (Decided ds))
+        (ap (outcome_of (setup_of x.circuit) m) (decides y ds solves is)) f alike
 
   rounds_steady : (rounds : List (Claim × List Act)) (k : ℕ) (m : Machine) → Computed m rounds → AlikeFrom m rounds
       → SteadyFrom k rounds None (under_way (at_round x hours more k m))
   rounds_steady [] k m h alike = at_fault (under_way (at_round x hours more k m)) (none_ended m h)
   rounds_steady (r ∷ later) k m h alike = (
     record { circuit = refl; number = refl; hour = refl; round_is = refl },
-    λ y solves. comes k m r later (λ j c a. rounds_steady later (k + 1) j c a) y (look_over (controls_in x.circuit) m.at r.0) refl
+    λ y solves. comes k m r later (λ j c a. rounds_steady later (k + 1) j c a) y
+        (look_over (controls_in x.circuit) m.at r.0) refl
         alike.0 solves h.1.1 alike.1,
   )
-
--- rows are no rounds
-rows_steady : (rows : List (List (List ℕ))) (later : List Event) (t : Checking) → AreSteady later t
-    → AreSteady (map row rows ++ later) t
-rows_steady [] later t h = h
-rows_steady (r ∷ rows) later t h = rows_steady rows later t h
 
 -- ---- an hour
 
@@ -151,9 +155,10 @@ module _ (c : CircuitView) (more : List CircuitView) where
 
   -- what stands behind an hour that ended well, or at the start of a Solve: these hours of it are left
   abbrev Onward : List ℕ → Kept → List Event → Type 0
-  Onward hours l es = (pending_first es ≡ queue_behind c l.machine hours) × AreSteady es (opens hours l)
+  Onward hours l es = AreSteady es (queue_behind c l.machine hours) (opens hours l)
 
-  module _ (hour : ℕ) (hours : List ℕ) (l : Kept) (rounds : List (Claim × List Act)) (ending : Ending) (n : Machine) (end : SettleEnd)
+  module _ (hour : ℕ) (hours : List ℕ) (l : Kept) (rounds : List (Claim × List Act)) (ending : Ending) (n : Machine)
+      (end : SettleEnd)
       (computed : IsComputedFrom (limits_of c.options) (plant_at c hour) (begun_by c hour l).machine rounds ending n)
       (end_is : IsEndBy c hour ending n end) (es : List Event)
       (later : end ≡ settled → Onward hours (kept_by l n) es) (none : (end ≡ settled → ⊥) → es ≡ []) where
@@ -161,32 +166,39 @@ module _ (c : CircuitView) (more : List CircuitView) where
     x = hour_settle c hour (begun_by c hour l) (rounds_of rounds) end n.at
 
     abbrev EndsSo : Option Left → Checking → Type 0
-    EndsSo left t = IsEnd x left es × AreSteady es t
+    EndsSo left t = IsEnd x left × AreSteady es (waiting_behind c left) t
 
-    at_end : (left : Option Left) (t : Checking) → ending ≡ ended Settled → NothingDue (setup_of c) n → left ≡ left_with hours n
+    at_end : (left : Option Left) (t : Checking) → ending ≡ ended Settled → NothingDue (setup_of c) n
+        → left ≡ left_with hours n
         → t ≡ behind_it x hours more n → EndsSo left t
     at_end left t e due left_is t_is =
         let is : end ≡ settled = subst (λ (q : Ending). IsEndBy c hour q n end) e end_is in
-        let onward = later is in
-        let here : IsEnd x (left_with hours n) es = record { well = (λ _. refl, λ _. is); at_rest = rests c n due; waiting = onward.0 } in
-        (subst (λ (q : Option Left). IsEnd x q es) (sym left_is) here, subst (AreSteady es) (sym t_is) onward.1)
+        let here : IsEnd x (left_with hours n) = record { well = (λ _. refl, λ _. is); at_rest = rests c n due } in
+        subst (λ (q : Option Left). EndsSo q t) (sym left_is)
+        (here, subst (AreSteady es (queue_behind c n hours)) (sym t_is) (later is))
 
     at_fault : (t : Checking) → (ending ≡ ended Settled → ⊥) → EndsSo None t
     at_fault t ill =
         let ends : end ≡ settled → ⊥ = λ e. ill (ended_well c hour ending n end end_is e) in
-        let here : IsEnd x None [] = record { well = (λ e. absurd (ends e), λ some. absurd (let no : ⊥ = cc some in no)); at_rest = tt; waiting = refl } in
-        subst (λ (q : List Event). IsEnd x None q × AreSteady q t) (sym (none ends)) (here, tt)
+        let here : IsEnd x None =
+        record { well = (λ e. absurd (ends e), λ some. absurd (let no : ⊥ = cc some in no)); at_rest = tt } in
+        (here, subst (λ (q : List Event). AreSteady q None t) (sym (none ends)) refl)
 
-    pub hour_steady : AreAlike x → AreSteady (settle x ∷ es) (opens (hour ∷ hours) l)
+    pub hour_steady : AreAlike x → AreSteady (settle x ∷ es) None (opens (hour ∷ hours) l)
     hour_steady alike = (
-      none,
-      rounds_steady x hours more (limits_of c.options) n ending EndsSo (λ e. ended_well c hour ending n end end_is e) at_end at_fault rounds 0
-          (begun_by c hour l).machine computed alike,
+      refl,
+      (
+        none,
+        rounds_steady x hours more (limits_of c.options) n ending EndsSo
+            (λ e. ended_well c hour ending n end end_is e) at_end at_fault rounds 0
+            (begun_by c hour l).machine computed alike,
+      ),
     )
 
-  made_steady : (hour : ℕ) (hours : List ℕ) (l : Kept) (made : Settle) (kept : Kept) → IsHour c hour l made kept → IsSolved made
+  made_steady : (hour : ℕ) (hours : List ℕ) (l : Kept) (made : Settle) (kept : Kept) → IsHour c hour l made kept
+      → IsSolved made
       → (es : List Event) → (made.end ≡ settled → Onward hours kept es) → ((made.end ≡ settled → ⊥) → es ≡ [])
-      → AreSteady (settle made ∷ es) (opens (hour ∷ hours) l)
+      → AreSteady (settle made ∷ es) None (opens (hour ∷ hours) l)
   made_steady hour hours l made kept is solved es later none =
       let x : Settle = hour_settle c hour (begun_by c hour l) (rounds_of is.rounds) is.end is.machine.at in
       let ends : is.end ≡ made.end = sym (ap (λ (s : Settle). s.end) is.settle_is) in
@@ -194,20 +206,21 @@ module _ (c : CircuitView) (more : List CircuitView) where
       (λ e. subst (λ (k : Kept). Onward hours k es) is.kept (later (sym ends ∙ e)))
       (λ ill. none (λ e. ill (ends ∙ e)))
       (subst AreAlike is.settle_is solved.alike) in
-      subst (λ (s : Settle). AreSteady (settle s ∷ es) (opens (hour ∷ hours) l)) (sym is.settle_is) here
+      subst (λ (s : Settle). AreSteady (settle s ∷ es) None (opens (hour ∷ hours) l)) (sym is.settle_is) here
 
   -- ---- the hours of a Solve
 
   -- what stands behind a step
   abbrev Behind : Step StandingView → List Event → Type 0
-  Behind (goes events t) later = (pending_first later ≡ []) × AreSteady later (open_solves more t.at t.settled)
+  Behind (goes events t) later = AreSteady later None (open_solves more t.at t.settled)
   Behind (work.ends events f) later = later ≡ []
 
   abbrev StepFrom : List ℕ → Kept → List Event → Step StandingView → Type 0
   StepFrom hours l later s = Onward hours l (events_in s ++ later)
 
   abbrev Again : List ℕ → Kept → List Event → Type 0
-  Again hours l later = (s : Step StandingView) → IsHoursStep c hours l s → AllByRecursion (IfSettle IsSolved) (events_in s)
+  Again hours l later =
+      (s : Step StandingView) → IsHoursStep c hours l s → AllByRecursion (IfSettle IsSolved) (events_in s)
       → Behind s later → StepFrom hours l later s
 
   pub hours_steady : (hours : List ℕ) (l : Kept) (step : Step StandingView) → IsHoursStep c hours l step
@@ -215,11 +228,9 @@ module _ (c : CircuitView) (more : List CircuitView) where
       → Onward hours l (events_in step ++ later)
   hours_steady [] l step h solved later behind =
       let b = subst (λ (s : Step StandingView). Behind s later) h behind in
-      subst (StepFrom [] l later) (sym h) (
-        pending_before (controls_of c.elements) l.machine.queue later b.0,
-        rows_steady (pending_rows (controls_of c.elements) l.machine.queue) later (opens [] l) b.1,
-      )
-  hours_steady (hour ∷ hours) l step h solved later behind = by h.made.end refl h.goes_on (λ s right all b. hours_steady hours h.kept s right all later b)
+      subst (StepFrom [] l later) (sym h) ((refl, refl), b)
+  hours_steady (hour ∷ hours) l step h solved later behind =
+      by h.made.end refl h.goes_on (λ s right all b. hours_steady hours h.kept s right all later b)
     where
       goes_on : h.made.end ≡ settled → (rest : Step StandingView) → IsHoursStep c hours h.kept rest
           → step ≡ behind_events (settle h.made ∷ []) rest → Again hours h.kept later
@@ -227,28 +238,26 @@ module _ (c : CircuitView) (more : List CircuitView) where
       goes_on well (goes es u) right is again =
           let all = subst (λ (s : Step StandingView). AllByRecursion (IfSettle IsSolved) (events_in s)) is solved in
           let b = subst (λ (s : Step StandingView). Behind s later) is behind in
-          subst (StepFrom (hour ∷ hours) l later) (sym is) (
-            refl,
-            made_steady hour hours l h.made h.kept h.is all.0 (es ++ later) (λ e. again (goes es u) right all.1 b)
-                (λ ill. absurd (ill well)),
-          )
+          subst (StepFrom (hour ∷ hours) l later) (sym is)
+          (made_steady hour hours l h.made h.kept h.is all.0 (es ++ later) (λ e. again (goes es u) right all.1 b)
+          (λ ill. absurd (ill well)))
       goes_on well (work.ends es f) right is again =
           let all = subst (λ (s : Step StandingView). AllByRecursion (IfSettle IsSolved) (events_in s)) is solved in
           let b = subst (λ (s : Step StandingView). Behind s later) is behind in
-          subst (StepFrom (hour ∷ hours) l later) (sym is) (
-            refl,
-            made_steady hour hours l h.made h.kept h.is all.0 (es ++ later)
-                (λ e. again (work.ends es f) right all.1 b) (λ ill. absurd (ill well)),
-          )
+          subst (StepFrom (hour ∷ hours) l later) (sym is)
+          (made_steady hour hours l h.made h.kept h.is all.0 (es ++ later) (λ e. again (work.ends es f) right all.1 b)
+          (λ ill. absurd (ill well)))
 
-      stops : (h.made.end ≡ settled → ⊥) → (f : Fault) → step ≡ work.ends (settle h.made ∷ []) f → StepFrom (hour ∷ hours) l later step
+      stops : (h.made.end ≡ settled → ⊥) → (f : Fault) → step ≡ work.ends (settle h.made ∷ []) f
+          → StepFrom (hour ∷ hours) l later step
       stops ill f is =
           let all = subst (λ (s : Step StandingView). AllByRecursion (IfSettle IsSolved) (events_in s)) is solved in
           let b = subst (λ (s : Step StandingView). Behind s later) is behind in
           subst (StepFrom (hour ∷ hours) l later) (sym is)
-          (refl, made_steady hour hours l h.made h.kept h.is all.0 later (λ e. absurd (ill e)) (λ e. b))
+          (made_steady hour hours l h.made h.kept h.is all.0 later (λ e. absurd (ill e)) (λ e. b))
 
-      by : (end : SettleEnd) → h.made.end ≡ end → IsBehind h.made end (λ s. IsHoursStep c hours h.kept s) step → Again hours h.kept later
+      by : (end : SettleEnd) → h.made.end ≡ end → IsBehind h.made end (λ s. IsHoursStep c hours h.kept s) step
+          → Again hours h.kept later
           → StepFrom (hour ∷ hours) l later step
       by settled well on again = goes_on well on.more on.right on.step_is again
       by (failed f) well on again = stops (λ e. let no = sym well ∙ e in cc no) f on
@@ -257,15 +266,15 @@ module _ (c : CircuitView) (more : List CircuitView) where
 -- ---- a command
 
 -- bases are no rounds
-bases_steady : (bases : List BusBase) (later : List Event) (t : Checking) → AreSteady later t
-    → AreSteady (map (λ b. row (base_fields b.bus b.kv)) bases ++ later) t
+bases_steady : (bases : List BusBase) (later : List Event) (t : Checking) → AreSteady later None t
+    → AreSteady (map (λ b. row (base_fields b.bus b.kv)) bases ++ later) None t
 bases_steady [] later t h = h
-bases_steady (b ∷ bases) later t h = bases_steady bases later t h
+bases_steady (b ∷ bases) later t h = (refl, bases_steady bases later t h)
 
 module _ (passed : PassedLaw) where
-  -- no entry that waits comes first, and the acts are those of any states
+  -- so where nothing is to be told of what waits
   abbrev SteadyFirst : List Event → Checking → Type 0
-  SteadyFirst events t = (pending_first events ≡ []) × AreSteady events t
+  SteadyFirst events t = AreSteady events None t
 
   abbrev BehindIt : (CircuitView → List CircuitView) → Step StandingView → List Event → Type 0
   BehindIt more (goes events t) later = SteadyFirst later (open_solves (more t.circuit) t.at t.settled)
@@ -281,10 +290,12 @@ module _ (passed : PassedLaw) where
         subst (IsSteadyStep left) (sym is) (h (subst (λ (q : Step StandingView). BehindIt more q later) is behind))
 
     no_more : (left : Applied) (f : Fault) → BehindIt more (work.ends [] f) later → IsSteadyStep left (work.ends [] f)
-    no_more left f none = subst (λ (q : List Event). SteadyFirst q (open_solves (behind_command left more) at n)) (sym none) (refl, tt)
+    no_more left f none =
+        subst (λ (q : List Event). SteadyFirst q (open_solves (behind_command left more) at n)) (sym none) refl
 
     solve_steady : (d : CircuitView) (step : Step StandingView) (answer : Result Unit Blame) → IsTested d answer
-        → IsByTests (standing d at n) answer step → AllByRecursion (IfSettle IsSolved) (events_in step) → BehindIt more step later
+        → IsByTests (standing d at n) answer step → AllByRecursion (IfSettle IsSolved) (events_in step)
+        → BehindIt more step later
         → IsSteadyStep (solve_left d) step
     unfolding IsSolutionStep
     solve_steady d step (Err blame) right is all behind =
@@ -292,8 +303,8 @@ module _ (passed : PassedLaw) where
         step_as (solve_left d) step (work.ends [] f) is (no_more (solve_left d) f) behind
     solve_steady d step (Ok done) ready is all behind =
         let first : Kept = kept_first (standing d at n) in
-        let hours = hours_steady d (more d) (hours_of d.options) first step is all later (there step refl behind) in
-        (hours.0 ∙ none_behind d first.machine (hours_of d.options) refl, hours.1)
+        none_behind d first.machine (hours_of d.options) (events_in step ++ later) (open_solves (d ∷ more d) at n) refl
+        (hours_steady d (more d) (hours_of d.options) first step is all later (there step refl behind))
       where
         there : (s : Step StandingView) → step ≡ s → BehindIt more s later → Behind d (more d) s later
         there (goes es t) same b =
@@ -303,10 +314,11 @@ module _ (passed : PassedLaw) where
 
     step_steady : (left : Applied) (step : Step StandingView) → IsStepOf at n left step
         → AllByRecursion (IfSettle IsSolved) (events_in step) → BehindIt more step later → IsSteadyStep left step
-    step_steady (nothing_left d) step is all behind = step_as (nothing_left d) step (goes [] (standing d at n)) is (λ b. b) behind
+    step_steady (nothing_left d) step is all behind =
+        step_as (nothing_left d) step (goes [] (standing d at n)) is (λ b. b) behind
     step_steady (bases_left d) step is all behind =
         step_as (bases_left d) step (goes (base_events d) (standing d at n)) is
-        (λ b. (bases_first (bases_of d) later b.0, bases_steady (bases_of d) later (open_solves (more d) at n) b.1)) behind
+        (λ b. bases_steady (bases_of d) later (open_solves (more d) at n) b) behind
     step_steady (commands.refused_at place c) step is all behind =
         step_as (commands.refused_at place c) step (work.ends [] (fault.Script place c)) is
         (no_more (commands.refused_at place c) (fault.Script place c)) behind
@@ -324,31 +336,32 @@ module _ (passed : PassedLaw) where
     abbrev AllSolved : List Event → Type 0
     AllSolved events = AllByRecursion (IfSettle IsSolved) events
 
-    script_first : (said : List Said) (end : ScriptEnd) (s : StandingView) (h : History) → IsHistoryFrom said end s h
+    pub script_steady : (said : List Said) (end : ScriptEnd) (s : StandingView) (h : History)
+        → IsHistoryFrom said end s h
         → AllSolved h.events → IsSteadyFrom said s h.events
-    script_first [] at_its_end s h is all = subst (λ (x : History). IsSteadyFrom [] s x.events) (sym is) (refl, tt)
-    script_first [] (refused_at place c) s h is all = subst (λ (x : History). IsSteadyFrom [] s x.events) (sym is) (refl, tt)
-    script_first (name n ∷ more) end s h is all =
+    script_steady [] at_its_end s h is all = subst (λ (x : History). IsSteadyFrom [] s x.events) (sym is) refl
+    script_steady [] (refused_at place c) s h is all = subst (λ (x : History). IsSteadyFrom [] s x.events) (sym is) refl
+    script_steady (name n ∷ more) end s h is all =
         let solved = subst (λ (x : History). AllSolved x.events) is.h_is all in
-        subst (λ (x : History). IsSteadyFrom (name n ∷ more) s x.events) (sym is.h_is) (refl, (script_first more end s is.more is.right solved.1).1)
-    script_first (command c ∷ more) end s h is all =
-        step_of is.step is.right is.goes_on (λ t x right solved. script_first more end t x right solved)
+        subst (λ (x : History). IsSteadyFrom (name n ∷ more) s x.events) (sym is.h_is)
+        (refl, script_steady more end s is.more is.right solved.1)
+    script_steady (command c ∷ more) end s h is all =
+        step_of is.step is.right is.goes_on (λ t x right solved. script_steady more end t x right solved)
       where
         step_of : (step : Step StandingView) → IsStep c s step → AfterStep step (λ t x. IsHistoryFrom more end t x) h
-            → ((t : StandingView) (x : History) → IsHistoryFrom more end t x → AllSolved x.events → IsSteadyFrom more t x.events)
+            → ((t : StandingView) (x : History) → IsHistoryFrom more end t x → AllSolved x.events
+            → IsSteadyFrom more t x.events)
             → IsSteadyFrom (command c ∷ more) s h.events
         step_of (goes events t) right on again =
             let solved = subst (λ (x : History). AllSolved x.events) on.h_is all in
             subst (λ (x : History). IsSteadyFrom (command c ∷ more) s x.events) (sym on.h_is)
-            (step_steady s.at s.settled (λ next. solves_from more next) on.more.events (tried c s.circuit) (goes events t) right
+            (step_steady s.at s.settled (λ next. solves_from more next) on.more.events (tried c s.circuit)
+            (goes events t) right
             (left_all (IfSettle IsSolved) events on.more.events solved)
             (again t on.more on.right (right_all (IfSettle IsSolved) events on.more.events solved)))
         step_of (work.ends events f) right on again =
             let solved = subst (λ (x : History). AllSolved x.events) on all in
             subst (λ (x : History). IsSteadyFrom (command c ∷ more) s x.events) (sym on)
             (subst (IsSteadyFrom (command c ∷ more) s) (append-nil events)
-            (step_steady s.at s.settled (λ next. solves_from more next) [] (tried c s.circuit) (work.ends events f) right solved refl))
-
-    pub script_steady : (said : List Said) (end : ScriptEnd) (s : StandingView) (h : History) → IsHistoryFrom said end s h
-        → AllSolved h.events → AreSteady h.events (open_solves (solves_from said s.circuit) s.at s.settled)
-    script_steady said end s h is all = (script_first said end s h is all).1
+            (step_steady s.at s.settled (λ next. solves_from more next) [] (tried c s.circuit)
+            (work.ends events f) right solved refl))

@@ -9,7 +9,7 @@ use Rattle.fd_checking.specs.fd_certfile.Lines.{Line, bytes_of, header, line_byt
 use Rattle.fd_checking.specs.fd_certfile.Lines as text
 use Rattle.fd_checking.specs.fd_outcome.Calls.{Call, body, calls_of, certificate, opened, reads, texts_written, writes}
 use Rattle.fd_checking.specs.fd_outcome.Certificates.{block_texts, blocks_of, blocks_texts, certificate_texts}
-use Rattle.fd_checking.specs.fd_outcome.Events.{Event, History, asked, settle, row, line}
+use Rattle.fd_checking.specs.fd_outcome.Events.{Event, History, asked, settle, waits, swept, row, line}
 use Rattle.fd_app.specs.Printed.{bytes_by}
 
 -- the blocks of the settles of events
@@ -27,7 +27,9 @@ IsNoLine other = Unit {0}
 
 pub all_blocks : (a b : List Event) → blocks_in (a ++ b) ≡ blocks_in a ++ blocks_in b
 all_blocks [] b = refl
-all_blocks (e ∷ a) b = ap (λ (bs : List Block). blocks_at e ++ bs) (all_blocks a b) ∙ sym (append_assoc (blocks_at e) (blocks_in a) (blocks_in b))
+all_blocks (e ∷ a) b =
+    ap (λ (bs : List Block). blocks_at e ++ bs) (all_blocks a b)
+    ∙ sym (append_assoc (blocks_at e) (blocks_in a) (blocks_in b))
 
 -- ---- texts among calls
 
@@ -48,7 +50,9 @@ body_texts (e ∷ events) calls =
     let names : List (List ℕ) = certificate.asked_in e in
     let texts : List (List ℕ) = certificate_texts e in
     let more : List Call = body certificate events in
-    ap texts_written (append_assoc (map reads names ++ map writes texts) more calls ∙ append_assoc (map reads names) (map writes texts) (more ++ calls))
+    ap texts_written
+    (append_assoc (map reads names ++ map writes texts) more calls
+    ∙ append_assoc (map reads names) (map writes texts) (more ++ calls))
     ∙ names_aside names (map writes texts ++ (more ++ calls))
     ∙ texts_first texts (more ++ calls)
     ∙ ap (λ (ts : List (List ℕ)). texts ++ ts) (body_texts events calls)
@@ -64,12 +68,16 @@ opened_texts first (writes t ∷ calls) last = texts_first first (writes t ∷ (
 
 lines_together : (a b : List Line) → bytes_of (a ++ b) ≡ bytes_of a ++ bytes_of b
 lines_together [] b = refl
-lines_together (l ∷ a) b = ap (λ (bs : List ℕ). line_bytes l ++ bs) (lines_together a b) ∙ sym (append_assoc (line_bytes l) (bytes_of a) (bytes_of b))
+lines_together (l ∷ a) b =
+    ap (λ (bs : List ℕ). line_bytes l ++ bs) (lines_together a b)
+    ∙ sym (append_assoc (line_bytes l) (bytes_of a) (bytes_of b))
 
 lines_written : (ls : List Line) (rest : List (List ℕ))
     → concat (map line_bytes ls ++ rest) ≡ bytes_of ls ++ concat rest
 lines_written [] rest = refl
-lines_written (l ∷ ls) rest = ap (λ (bs : List ℕ). line_bytes l ++ bs) (lines_written ls rest) ∙ sym (append_assoc (line_bytes l) (bytes_of ls) (concat rest))
+lines_written (l ∷ ls) rest =
+    ap (λ (bs : List ℕ). line_bytes l ++ bs) (lines_written ls rest)
+    ∙ sym (append_assoc (line_bytes l) (bytes_of ls) (concat rest))
 
 blocks_written : (bs : List Block) (rest : List (List ℕ)) (later : List Block)
     → concat rest ≡ bytes_of (lines_behind Sparse later)
@@ -89,9 +97,12 @@ events_written : (events : List Event) → AllByRecursion IsNoLine events
 events_written [] h = refl
 events_written (settle s ∷ events) h =
     ap concat (append_assoc (blocks_texts (blocks_of s)) (flat_map certificate_texts events) (last_text ∷ []))
-    ∙ blocks_written (blocks_of s) (flat_map certificate_texts events ++ last_text ∷ []) (blocks_in events) (events_written events h.1)
+    ∙ blocks_written (blocks_of s) (flat_map certificate_texts events ++ last_text ∷ []) (blocks_in events)
+    (events_written events h.1)
 events_written (asked n ∷ events) h = events_written events h.1
 events_written (row fields ∷ events) h = events_written events h.1
+events_written (waits c es ∷ events) h = events_written events h.1
+events_written (swept c m l ∷ events) h = events_written events h.1
 events_written (line t ∷ events) h = absurd h.0
 
 by_end : (events : List Event) (end : Option _) → end ≡ None → AllByRecursion IsNoLine events

@@ -1,22 +1,18 @@
--- With which records of entries that wait events begin, and with which machine a settle ends.
-use Rattle.std.proofs.Common.{◌≡◌, ℕ, false, List, [], ◌∷◌, ◌++◌, map, slice_get, Option, Some, None, refl, ap}
+-- With which machine a settle ends, and where nothing is to be told of what waits.
+use Rattle.std.proofs.Common.{◌≡◌, ◌∙◌, ℕ, false, List, [], ◌∷◌, Some, None, refl}
 use Rattle.std.specs.List.{AllByRecursion}
-use Rattle.fd_checking.specs.dss_model.declared.element.Element.{Element}
-use Rattle.fd_checking.specs.dss_model.declared.names.ElementName.{ElementName}
 use Rattle.fd_checking.specs.dss_circuit.Circuit.{CircuitView}
-use Rattle.fd_checking.specs.dss_layout.Layout.{Elements}
-use Rattle.fd_checking.specs.fd_bases.declared.bus_base.BusBase.{BusBase}
+use Rattle.fd_checking.specs.fd_check.Checking.{Checking}
 use Rattle.fd_checking.specs.fd_queue.Machine.{Machine, rule_of}
 use Rattle.fd_checking.specs.fd_queue.declared.entry.Entry.{Entry}
 use Rattle.fd_checking.specs.fd_queue.declared.timing.Timing.{Timing}
 use Rattle.fd_checking.specs.fd_queue.declared.timing.Timing.TheVariants as timing
-use Rattle.fd_checking.specs.fd_report.Bases.{base_fields}
-use Rattle.fd_checking.specs.fd_report.Controls.{pending_fields}
 use Rattle.fd_checking.specs.fd_settle.Laws.{NothingDue}
 use Rattle.fd_checking.specs.fd_settle.Plant.{setup_of, timing_of}
-use Rattle.fd_checking.specs.fd_outcome.Events.{Event, row}
-use Rattle.fd_checking.specs.fd_pages.Pending.{pending_events, pending_rows, pending_rows_by}
-use Rattle.fd_app.specs.Waiting.{IsAtRest, pending_first, queue_behind}
+use Rattle.fd_checking.specs.fd_outcome.Events as event
+use Rattle.fd_checking.specs.fd_outcome.Events.{Event, asked, row, settle, swept, waits}
+use Rattle.fd_app.specs.Steady.{AreSteady}
+use Rattle.fd_app.specs.Waiting.{IsAtRest, Waiting, queue_behind}
 
 -- ---- nothing is due
 
@@ -29,28 +25,21 @@ none_static timing.Clock now es h is = absurd (let no : ⊥ = cc is in no)
 pub rests : (c : CircuitView) (m : Machine) → NothingDue (setup_of c) m → IsAtRest c m
 rests c m h = record { none_due = h; empty = none_static (timing_of c.options.controlmode) m.now m.queue h }
 
--- ---- records of entries that wait
+-- ---- nothing is to be told
 
-one_first : (o : Option (ElementName × Element)) (e : Entry) (rows : List (List (List ℕ))) (later : List Event)
-    → pending_first (map row rows ++ later) ≡ map row rows
-    → pending_first (map row (pending_rows_by o e ++ rows) ++ later) ≡ map row (pending_rows_by o e ++ rows)
-one_first None e rows later h = h
-one_first (Some c) e rows later h = ap (λ (es : List Event). row (pending_fields e.time c.0 e.up) ∷ es) h
+-- of an empty queue
+untold : (w : Waiting) (events : List Event) (t : Checking) → w.entries ≡ [] → AreSteady events (Some w) t
+    → AreSteady events None t
+untold w [] t none h = absurd (let no : ⊥ = cc h in no)
+untold w (settle x ∷ events) t none h = absurd (let no : ⊥ = cc (h.0) in no)
+untold w (waits c es ∷ events) t none h = (h.0.1 ∙ none, h.1)
+untold w (asked n ∷ events) t none h = absurd (let no : ⊥ = cc (h.0) in no)
+untold w (swept c m l ∷ events) t none h = absurd (let no : ⊥ = cc (h.0) in no)
+untold w (row fields ∷ events) t none h = absurd (let no : ⊥ = cc (h.0) in no)
+untold w (event.line text ∷ events) t none h = absurd (let no : ⊥ = cc (h.0) in no)
 
--- those of a queue, before events that begin with none
-pub pending_before : (controls : Elements) (es : List Entry) (later : List Event) → pending_first later ≡ []
-    → pending_first (map row (pending_rows controls es) ++ later) ≡ map row (pending_rows controls es)
-pending_before controls [] later none = none
-pending_before controls (e ∷ es) later none =
-    one_first (slice_get controls e.control) e (pending_rows controls es) later (pending_before controls es later none)
-
--- an empty queue has none
-pub none_behind : (c : CircuitView) (m : Machine) (hours : List ℕ) → m.queue ≡ [] → queue_behind c m hours ≡ []
-none_behind c m [] none = ap (pending_events c) none
-none_behind c m (hour ∷ hours) none = refl
-
--- voltage bases are none
-pub bases_first : (bases : List BusBase) (later : List Event) → pending_first later ≡ []
-    → pending_first (map (λ b. row (base_fields b.bus b.kv)) bases ++ later) ≡ []
-bases_first [] later h = h
-bases_first (b ∷ bases) later h = refl
+-- nor before an hour
+pub none_behind : (c : CircuitView) (m : Machine) (hours : List ℕ) (events : List Event) (t : Checking) → m.queue ≡ []
+    → AreSteady events (queue_behind c m hours) t → AreSteady events None t
+none_behind c m [] events t none h = untold (record { circuit = c; entries = m.queue }) events t none h
+none_behind c m (hour ∷ hours) events t none h = h

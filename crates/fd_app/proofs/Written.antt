@@ -57,12 +57,14 @@ none_failed law read (Some n) d m done =
       | inr cut ↦ absurd (let e = sym cut.end_now ∙ all.end in let no : ⊥ = cc in no)
     ]
 
-module _ (law : StatusLaw) (read : ReadLaw) (forms : FormsLaw) (rules : RuleLaw) (passed : PassedLaw) (certificates : CertificateLaw)
+module _ (law : StatusLaw) (read : ReadLaw) (forms : FormsLaw) (rules : RuleLaw) (passed : PassedLaw)
+    (certificates : CertificateLaw)
     (solved : SolvedLaw) where
   -- all of it was done, and its bytes are accepted
   record IsWritten (files : Files) (file : List ℕ) (h : History) (o : Outside) : Type 0 where
     pub end : h.end ≡ None
-    pub have_taken : HaveTaken (bytes_by certificate h) (solves_of (said_of files (chars file))) (length (all_rounds h.events)) o.taken_before o.taken_now
+    pub have_taken : HaveTaken (bytes_by certificate h) (solves_of (said_of files (chars file)))
+        (length (all_rounds h.events)) o.taken_before o.taken_now
 
   of_cert : (files : Files) (file : List ℕ) (h : History) (o : Outside)
       → IsFormHistory files (Some (Cert file)) h → IsPromised o files (Some (Cert file)) 0 → IsWritten files file h o
@@ -90,5 +92,6 @@ module _ (law : StatusLaw) (read : ReadLaw) (forms : FormsLaw) (rules : RuleLaw)
   pub round_trip : RoundTripLaw
   round_trip files there file name h g o right r same held_is checks =
       let all = of_cert files file h o right r in
-      script_accepted files there (chars name) (bytes_by certificate h) (length (all_rounds h.events)) held_is passed forms file name refl h
+      script_accepted files there (chars name) (bytes_by certificate h)
+      (length (all_rounds h.events)) held_is passed forms file name refl h
       right all.end all.have_taken.are_accepted same g checks

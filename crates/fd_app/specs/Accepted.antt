@@ -16,7 +16,8 @@ use Rattle.fd_app.specs.Solves.{solves_of}
 
 -- the definitions of the checker accept these bytes for the Solves of these circuits, with so many blocks
 abbrev pub AreAccepted : List ℕ → List CircuitView → ℕ → Type 0
-AreAccepted bytes circuits count = IsAnswer due after (Some bytes) (open_solves circuits no_positions 0) (accepted count)
+AreAccepted bytes circuits count =
+    IsAnswer due after (Some bytes) (open_solves circuits no_positions 0) (accepted count)
 
 -- Where the history of a script's commands ends without a fault, the bytes that it is printed as in a certificate are
 -- accepted for the Solves of that script, with a block for each round.

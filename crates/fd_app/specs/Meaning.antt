@@ -10,11 +10,13 @@ use Rattle.fd_checking.specs.fd_system.Residual.{whole_state}
 use Rattle.fd_checking.specs.fd_enclosure.Sound.{Claim}
 use Rattle.fd_checking.specs.fd_certfile.Blocks.{Block}
 use Rattle.fd_checking.specs.fd_certfile.declared.version.Version.{Version}
-use Rattle.fd_checking.specs.fd_certfile.Certificates.{Certificate, ends, trails, refuses, gives, Reads, behind_first, version_in}
+use Rattle.fd_checking.specs.fd_certfile.Certificates.{Certificate, ends, trails, refuses, gives, Reads, behind_first}
+use Rattle.fd_checking.specs.fd_certfile.Certificates.{version_in}
 use Rattle.fd_checking.specs.fd_certfile.Judging.{claim_on}
 use Rattle.fd_checking.specs.fd_certfile.Lines.{lines_of}
 use Rattle.fd_checking.specs.fd_certfile.Rules.{moves}
-use Rattle.fd_checking.specs.fd_check.Checking.{Checking, Settling, behind_round, done, open_solves, sampled_by, under_way}
+use Rattle.fd_checking.specs.fd_check.Checking.{Checking, Settling, behind_round, done, open_solves, sampled_by}
+use Rattle.fd_checking.specs.fd_check.Checking.{under_way}
 use Rattle.fd_checking.specs.fd_daily.Underway.{no_positions}
 use Rattle.fd_checking.specs.fd_outcome.Events.{History}
 use Rattle.fd_checking.specs.fd_solving.Headline.{EnclosesOthers, EnclosesSizes, hour_network}
@@ -29,8 +31,8 @@ use Rattle.fd_app.specs.Steady.{Solves, outcome_at}
 abbrev pub claim_at : Settling → Block → Claim
 claim_at s b = claim_on (hour_network s.circuit s.hour s.machine.at) b
 
--- A block has the numbers of its round and no mismatch above 1,000. Its own state solves the round; each state that does
--- is within the radii, with the sizes of its voltages and currents from low to high; and the acts are those of the
+-- A block has the numbers of its round and no mismatch above 1,000. Its own state solves the round; each state that
+-- does is within the radii, with the sizes of its voltages and currents from low to high; and the acts are those of the
 -- queue machine over any of them.
 pub record IsCertified (s : Settling) (b : Block) : Type 0 where
   pub number : b.number ≡ pos s.number
@@ -44,8 +46,8 @@ pub record IsCertified (s : Settling) (b : Block) : Type 0 where
 
 -- ---- all rounds
 
--- Each block is of the round that comes next, whatever states are chosen that solve the rounds before, one after another
--- through all hours of all Solves; and behind the last block no round is left.
+-- Each block is of the round that comes next, whatever states are chosen that solve the rounds before, one after
+-- another through all hours of all Solves; and behind the last block no round is left.
 abbrev pub AreCertified : Certificate → Checking → Type 0
 AreCertified (gives b more) done = ⊥
 AreCertified (gives b more) (under_way s) =
@@ -70,5 +72,7 @@ IsCertificateOf solved (Some bytes) = AreCertificateOf solved bytes
 
 -- where `check` ends without a fault, what is held under the certificate's name is one of the script's Solves
 abbrev pub MeaningLaw : Type 0
-MeaningLaw = (files : Files) (script name : List ℕ) (h : History) → IsFormHistory files (Some (Check script name)) h → h.end ≡ None
+MeaningLaw =
+    (files : Files) (script name : List ℕ) (h : History) → IsFormHistory files (Some (Check script name)) h
+    → h.end ≡ None
     → IsCertificateOf (solves_of (said_of files (chars script))) (held files (bytes (chars name)))

@@ -1,5 +1,5 @@
--- What is said of each printed round: of its state and numbers `m`, for a circuit at an hour and at positions of taps and
--- banks.
+-- What is said of each printed round: of its state and numbers `m`, for a circuit at an hour and at positions of taps
+-- and banks.
 use Rattle.std.specs.Prelude.{◌≡◌, ◌<◌, ◌≤◌, ℕ, List, Ok, All}
 use Rattle.fd_checking.specs.dss_circuit.Circuit.{CircuitView}
 use Rattle.fd_checking.specs.fd_system.Residual.{whole_state}
@@ -11,7 +11,9 @@ use Rattle.fd_checking.specs.fd_settle.Contract.{limits_of}
 use Rattle.fd_checking.specs.fd_settle.Rounds.{AtEach}
 use Rattle.fd_checking.specs.fd_outcome.Events.{Event, IfSettle}
 use Rattle.fd_checking.specs.fd_outcome.Settles.{Settle}
-use Rattle.fd_checking.specs.fd_solving.Headline.{AreTied, EnclosesAll, EnclosesAllSizes, HasItsBox, HaveOneBall, IsLinear, MeetsRound, claims_of, equation_count, hour_network, machine_of}
+use Rattle.fd_checking.specs.fd_solving.Headline.{AreTied, EnclosesAll, EnclosesAllSizes, HasItsBox, HaveOneBall}
+use Rattle.fd_checking.specs.fd_solving.Headline.{IsLinear, MeetsRound, claims_of, equation_count, hour_network}
+use Rattle.fd_checking.specs.fd_solving.Headline.{machine_of}
 
 -- P of each round of these events, with the positions at which it was solved
 abbrev pub HasEach : (CircuitView → ℕ → Positions → Claim → Type 0) → Settle → Type 0
@@ -35,8 +37,8 @@ pub record IsExact (circuit : CircuitView) (hour : ℕ) (at : Positions) (m : Cl
   pub boxes : HasItsBox circuit hour at m
   pub one_ball : HaveOneBall circuit hour at m
 
--- where each part load is of constant impedance, every state of whatever size that meets the printed mismatches is within
--- the printed radii, with sizes from low to high
+-- where each part load is of constant impedance, every state of whatever size that meets the printed mismatches is
+-- within the printed radii, with sizes from low to high
 pub record EnclosesLinear (circuit : CircuitView) (hour : ℕ) (at : Positions) (m : Claim) : Type 0 where
   pub all : IsLinear circuit hour at → EnclosesAll circuit hour at m
   pub sizes : IsLinear circuit hour at → EnclosesAllSizes circuit hour at m

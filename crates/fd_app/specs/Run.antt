@@ -17,9 +17,7 @@ use Rattle.fd_checking.specs.Checks.{IsCheckHistory}
 use Rattle.fd_upgrade.specs.Upgrading.{IsUpgradeHistory}
 use Rattle.fd_shorting.specs.fd_fault.declared.kind.Kind.{Kind}
 use Rattle.fd_shorting.specs.fd_fault.declared.kind.Kind.TheVariants as kind
-use Rattle.fd_shorting.specs.Pages.{short_report}
 use Rattle.fd_shorting.specs.Shorting.{IsFaultHistory}
-use Rattle.fd_sweeping.specs.Pages.{ladder_report}
 use Rattle.fd_sweeping.specs.Sweeping.{IsLadderHistory}
 use Rattle.fd_bench.specs.Bench.{IsBenchHistory, lines_alone, script_written}
 
@@ -38,8 +36,8 @@ asking style tells = record { asks = true; style = style; tells = tells }
 abbrev pub alone : Style → Manner
 alone style = record { asks = false; style = style; tells = true }
 
--- `solve` and `ladder` may still run out of memory as they look for a command behind the last one, and `fault` behind its
--- one settle
+-- `solve` and `ladder` may still run out of memory as they look for a command behind the last one, and `fault` behind
+-- its one settle
 abbrev pub manner_of : Option Form → Manner
 manner_of None = alone report
 manner_of (Some (Solve file)) = asking report false
@@ -48,8 +46,8 @@ manner_of (Some (Check script name)) = asking report true
 manner_of (Some (Gen number sections)) = alone report
 manner_of (Some (Bench number sections)) = alone lines_alone
 manner_of (Some (Upgrade name)) = asking report true
-manner_of (Some (Fault master bus kind)) = asking short_report false
-manner_of (Some (Ladder master)) = asking ladder_report false
+manner_of (Some (Fault master bus kind)) = asking report false
+manner_of (Some (Ladder master)) = asking report false
 
 -- the files agree with what was answered in a call, where names are asked
 abbrev pub AgreesIf : Bool → List Answer → List Answer → Files → Type 0
@@ -88,7 +86,8 @@ module _ {L S : Type 0} (answers : L → List Answer) (taken : S → List ℕ) (
   -- the one history of the form over these files is done, whole or cut short
   abbrev pub RunsOver : Files → Option Form → L → L → S → S → ℕ → Type 0
   RunsOver files form lib_old lib_new old new code =
-      Runs answers taken calls lib_old lib_new old new (λ h. IsFormHistory files form h) (manner_of form).style (manner_of form).tells code
+      Runs answers taken calls lib_old lib_new old new (λ h. IsFormHistory files form h) (manner_of form).style
+      (manner_of form).tells code
 
   -- so over all files that agree with what was answered in the call
   abbrev pub RunsForm : Option Form → L → L → S → S → ℕ → Type 0

@@ -7,13 +7,14 @@ use Rattle.fd_checking.specs.fd_settle.Plant.{controls_in, setup_of}
 use Rattle.fd_checking.specs.fd_settle.Sampling.{look_at}
 use Rattle.fd_checking.specs.fd_settle.Settle.{Outcome, outcome_of}
 use Rattle.fd_checking.specs.fd_certfile.Rules.{moves}
-use Rattle.fd_checking.specs.fd_check.Checking.{Checking, Settling, act_due, behind_round, done, open_solves, sampled_by, under_way}
+use Rattle.fd_checking.specs.fd_check.Checking.{Checking, Settling, act_due, behind_round, done, open_solves}
+use Rattle.fd_checking.specs.fd_check.Checking.{sampled_by, under_way}
 use Rattle.fd_checking.specs.fd_daily.Underway.{no_positions}
-use Rattle.fd_checking.specs.fd_outcome.Events.{Event, settle}
+use Rattle.fd_checking.specs.fd_outcome.Events.{Event, settle, waits}
 use Rattle.fd_checking.specs.fd_outcome.Settles.{Round, Settle, claim_in, settled}
 use Rattle.fd_checking.specs.fd_solving.Headline.{IsOtherState}
 use Rattle.fd_app.specs.Solves.{solves_of}
-use Rattle.fd_app.specs.Waiting.{IsEnd, IsLastAtFault, Left, left_at_end}
+use Rattle.fd_app.specs.Waiting.{AreWaiting, IsEnd, IsLastAtFault, Left, Waiting, left_at_end, waiting_behind}
 
 -- ---- one round
 
@@ -56,12 +57,15 @@ AreSteadyFrom x k (r ∷ rounds) l rest (under_way s) =
 
 -- ---- all settles, through all hours of all Solves
 
-abbrev pub AreSteady : List Event → Checking → Type 0
-AreSteady [] t = Unit {0}
-AreSteady (settle x ∷ events) t =
-    IsLastAtFault x events × AreSteadyFrom x 0 x.rounds None (λ l u. IsEnd x l events × AreSteady events u) t
-AreSteady (other ∷ events) t = AreSteady events t
+-- `due` is what waits where the last settle ended, which is told directly behind it
+abbrev pub AreSteady : List Event → Option Waiting → Checking → Type 0
+AreSteady [] due t = due ≡ None
+AreSteady (settle x ∷ events) due t =
+    (due ≡ None) × (IsLastAtFault x events
+    × AreSteadyFrom x 0 x.rounds None (λ l u. IsEnd x l × AreSteady events (waiting_behind x.circuit l) u) t)
+AreSteady (waits c es ∷ events) due t = AreWaiting due c es × AreSteady events None t
+AreSteady (other ∷ events) due t = (due ≡ None) × AreSteady events None t
 
 -- so from the first Solve of a script on, before which no positions and no settles are
 abbrev pub AreSteadyThroughout : Part → List Event → Type 0
-AreSteadyThroughout p events = AreSteady events (open_solves (solves_of p) no_positions 0)
+AreSteadyThroughout p events = AreSteady events None (open_solves (solves_of p) no_positions 0)

@@ -18,7 +18,8 @@ use Rattle.fd_app.specs.Solves.{solves_of}
 abbrev pub WrittenLaw : Type 0
 WrittenLaw = (files : Files) (file : List ℕ) (h : History) (o : Outside)
     → IsFormHistory files (Some (Cert file)) h → IsPromised o files (Some (Cert file)) 0
-    → HaveTaken (bytes_by certificate h) (solves_of (said_of files (chars file))) (length (all_rounds h.events)) o.taken_before o.taken_now
+    → HaveTaken (bytes_by certificate h) (solves_of (said_of files (chars file)))
+    (length (all_rounds h.events)) o.taken_before o.taken_now
 
 -- Where a run of `cert` answers 0, `check` of the same script accepts what it wrote, where that is held under the name
 -- of the certificate; the script says the same beside it.

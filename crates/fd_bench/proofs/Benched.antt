@@ -20,7 +20,7 @@ use Rattle.fd_solving.specs.fd_report.declared.faults.Fault.TheVariants as fault
 use Rattle.fd_solving.specs.fd_outcome.Behind.{last_calls}
 use Rattle.fd_solving.specs.fd_outcome.Calls.{Call, Style, body, calls_in, calls_of, doing, fault_text, names_read, reads, so_far, texts_written, writes}
 use Rattle.fd_solving.specs.fd_outcome.Done.{IsCutShort, IsDone, IsFrontOf, Made, Sees, failing, torn_bytes, torn_writes}
-use Rattle.fd_solving.specs.fd_outcome.Events.{Event, History, asked, before, ended, finishes, line, row, settle}
+use Rattle.fd_solving.specs.fd_outcome.Events.{Event, History, asked, before, ended, finishes, line, row, settle, swept, waits}
 use Rattle.fd_solving.specs.fd_outcome.History.{IsHistory}
 use Rattle.fd_solving.specs.fd_outcome.Parts.{EndsAt, EndsSo, Finishes, GoesOn, Printed, Wrote, events_in}
 use Rattle.fd_solving.specs.fd_outcome.Runs.{Runs}
@@ -239,6 +239,8 @@ unfolding kept
 kept_event (asked n) = refl
 kept_event (settle s) = refl
 kept_event (row fields) = refl
+kept_event (waits c es) = refl
+kept_event (swept c m l) = refl
 kept_event (line text) = refl
 
 kept_body : (events : List Event) → kept (body lines_of_text events) ≡ body lines_alone events

@@ -1,5 +1,6 @@
 -- What is left to do behind the last command, where a name is asked for there.
-use Rattle.std.proofs.Common.{◌≡◌, ◌∙◌, ℕ, Bool, true, false, List, [], ◌∷◌, ◌++◌, map, Option, Some, None, refl, sym, ap, subst, inl, inr, arith}
+use Rattle.std.proofs.Common.{◌≡◌, ◌∙◌, ℕ, Bool, true, false, List, [], ◌∷◌, ◌++◌, map, Option, Some, None, refl, sym}
+use Rattle.std.proofs.Common.{ap, subst, inl, inr, arith}
 use Rattle.std.proofs.lemmas.List.{append-nil}
 use Rattle.fd_certfile.specs.fd_outside.Answers.{Answer, HasFailed, names_asked}
 use Rattle.fd_report.specs.dss_model.Names.{bytes}
@@ -18,15 +19,18 @@ use Rattle.fd_outcome.proofs.Ways.{done_after, made_after}
 module _ (style : Style) (fits : AsksNames style) where
   body_asked : (n : List ℕ) (es : List Event) → body style (asked n ∷ es) ≡ reads n ∷ body style es
   body_asked n es =
-      ap (λ (names : List (List ℕ)). (map reads names ++ map writes (style.texts_in (asked n))) ++ body style es) (fits.asks n)
+      ap (λ (names : List (List ℕ)). (map reads names ++ map writes (style.texts_in (asked n))) ++ body style es)
+      (fits.asks n)
       ∙ ap (λ (texts : List (List ℕ)). ((reads n ∷ []) ++ map writes texts) ++ body style es) (fits.silent n)
 
   last_asked : (n : List ℕ) (begun : Bool) (es : List Event) (end : Option Fault)
       → last_calls style begun (asked n ∷ es) end ≡ reads n ∷ last_calls style begun es end
   last_asked n true es None = ap (λ (l : List Call). l ++ map writes style.closing) (body_asked n es)
-  last_asked n false es None = ap (λ (l : List Call). opened style.opening (l ++ map writes style.closing)) (body_asked n es)
+  last_asked n false es None =
+      ap (λ (l : List Call). opened style.opening (l ++ map writes style.closing)) (body_asked n es)
   last_asked n true es (Some f) = ap (λ (l : List Call). l ++ writes (fault_text f) ∷ []) (body_asked n es)
-  last_asked n false es (Some f) = ap (λ (l : List Call). opened style.opening l ++ writes (fault_text f) ∷ []) (body_asked n es)
+  last_asked n false es (Some f) =
+      ap (λ (l : List Call). opened style.opening l ++ writes (fault_text f) ∷ []) (body_asked n es)
 
   -- ---- what is done of it
 
@@ -48,7 +52,8 @@ module _ (style : Style) (fits : AsksNames style) where
     -- what comes behind the name is printed
     pub finishes_asked : (old new : S) (code : ℕ)
         → names_asked (answers lib_new) ≡ names_asked (answers lib_old) ++ bytes n ∷ []
-        → Printed taken calls old new tells (record { calls = last_calls style begun more.events more.end; end = more.end }) code
+        → Printed taken calls old new tells
+        (record { calls = last_calls style begun more.events more.end; end = more.end }) code
         → Ends old new code
     finishes_asked old new code grown p = record {
       history = before (asked n ∷ []) more;
@@ -59,11 +64,16 @@ module _ (style : Style) (fits : AsksNames style) where
       done = done_after tells (reads n ∷ []) (last_calls style begun more.events more.end)
           (last_calls style begun (asked n ∷ more.events) more.end) more.end code p.made
           (last_asked n begun more.events more.end) p.done;
-      sees = record { names = grown_by p.made p.wrote.names grown; bytes = p.wrote.bytes_are; writes = p.wrote.writes_are };
+      sees = record {
+        names = grown_by p.made p.wrote.names grown;
+        bytes = p.wrote.bytes_are;
+        writes = p.wrote.writes_are;
+      };
     }
 
     -- memory runs out before the name is asked
-    pub finishes_short : (out : S) → names_asked (answers lib_new) ≡ names_asked (answers lib_old) ++ [] → Ends out out 1
+    pub finishes_short : (out : S) → names_asked (answers lib_new) ≡ names_asked (answers lib_old) ++ []
+        → Ends out out 1
     finishes_short out same = record {
       history = before (asked n ∷ []) more;
       right = is;
@@ -71,7 +81,14 @@ module _ (style : Style) (fits : AsksNames style) where
       cause = inl refl;
       made = whole [];
       done = inr (
-        inl (record { rest = last_calls style begun (asked n ∷ more.events) more.end; calls = refl; torn = refl; status_is = refl }),
+        inl
+            (record {
+              rest = last_calls style begun
+                  (asked n ∷ more.events) more.end;
+              calls = refl;
+              torn = refl;
+              status_is = refl;
+            }),
         λ told none. nothing_less (none ∙ last_asked n begun more.events more.end),
       );
       sees = record {
@@ -96,5 +113,9 @@ module _ (style : Style) (fits : AsksNames style) where
           (sym (last_asked n begun more.events more.end))
           (done_after tells (reads n ∷ []) (writes (fault_text (fault.Read n)) ∷ [])
           (reads n ∷ writes (fault_text (fault.Read n)) ∷ []) (Some (fault.Read n)) code p.made refl p.done);
-      sees = record { names = grown_by p.made p.wrote.names grown; bytes = p.wrote.bytes_are; writes = p.wrote.writes_are };
+      sees = record {
+        names = grown_by p.made p.wrote.names grown;
+        bytes = p.wrote.bytes_are;
+        writes = p.wrote.writes_are;
+      };
     }

@@ -1,5 +1,6 @@
 -- What a session gives, and what was written and read behind what stood before.
-use Rattle.std.proofs.Common.{◌≡◌, ◌∙◌, ℕ, zero, suc, ◌+◌, ◌≤◌, length, Bool, true, false, List, [], ◌∷◌, ◌++◌, map, Option, Some, None, Result, Ok, Err, refl, sym, ap, inl, inr, arith}
+use Rattle.std.proofs.Common.{◌≡◌, ◌∙◌, ℕ, zero, suc, ◌+◌, ◌≤◌, length, Bool, true, false, List, [], ◌∷◌, ◌++◌, map}
+use Rattle.std.proofs.Common.{Option, Some, None, Result, Ok, Err, refl, sym, ap, inl, inr, arith}
 use Rattle.std.specs.Prelude.{◌||◌}
 use Rattle.std.specs.List.{concat}
 use Rattle.std.proofs.lemmas.List.{append_assoc, append-nil, map-append}
@@ -41,12 +42,17 @@ module _ (law : SaidLaw) (files : Files) where
   end_first : (script rest : Script) → after_names script ≡ rest → end_in script ≡ end_in rest
   end_first script rest e = sym (law.after script) ∙ ap end_in e
 
-  pub gives_next : (script : Script) (state : State) (old new : List (List ℕ)) (result : Result (Option Command) SessionFault)
+  pub gives_next : (script : Script) (state : State) (old new : List (List ℕ))
+      (result : Result (Option Command) SessionFault)
       → Tells files (after_names script) state result → Asks old new (names_first script) result
-      → Gives (said_in script) (end_in script) (said_in (remaining files state)) (end_in (remaining files state)) old new result
-  gives_next script state old new (Ok (Some c)) tells asks = (asked_first script _ old new tells asks, sym (end_first script _ tells))
-  gives_next script state old new (Ok None) tells asks = (asked_first script _ old new tells.0 asks, end_first script _ tells.0)
-  gives_next script state old new (Err (session.Script place c)) tells asks = (asked_first script _ old new tells asks, end_first script _ tells)
+      → Gives (said_in script) (end_in script) (said_in (remaining files state))
+      (end_in (remaining files state)) old new result
+  gives_next script state old new (Ok (Some c)) tells asks =
+      (asked_first script _ old new tells asks, sym (end_first script _ tells))
+  gives_next script state old new (Ok None) tells asks =
+      (asked_first script _ old new tells.0 asks, end_first script _ tells.0)
+  gives_next script state old new (Err (session.Script place c)) tells asks =
+      (asked_first script _ old new tells asks, end_first script _ tells)
   gives_next script state old new (Err (session.Read unread)) tells asks = record {
     names = asks.front;
     more = map name asks.rest ++ said_in (after_names script);
@@ -116,7 +122,8 @@ behind-append style false a b = append_is style a b
 pub text_behind : (style : Style) (t : Bool) (a b : List Event)
     → ((t || has_text (body style a)) || has_text (body style b)) ≡ (t || has_text (body style (a ++ b)))
 text_behind style true a b = refl
-text_behind style false a b = sym (has_text-append (body style a) (body style b)) ∙ ap has_text (sym (body-append style a b))
+text_behind style false a b =
+    sym (has_text-append (body style a) (body style b)) ∙ ap has_text (sym (body-append style a b))
 
 pub nothing_behind : (style : Style) (t : Bool) → behind style t [] ≡ []
 nothing_behind style true = refl
@@ -144,7 +151,8 @@ read_behind : (a : List Call) (n k : ℕ) (rest : List Call) (end : Option Fault
 read_behind [] n k rest end e = ap (λ (j : ℕ). read_failing j rest end) (let f : k ≡ n = omega (arith, e) in f)
 read_behind (writes text ∷ a) n k rest end e = ap (called_first (writes text)) (read_behind a n k rest end e)
 read_behind (reads m ∷ a) n zero rest end e = absurd (omega (arith, e))
-read_behind (reads m ∷ a) n (suc k) rest end e = ap (called_first (reads m)) (read_behind a n k rest end (omega (arith, e)))
+read_behind (reads m ∷ a) n (suc k) rest end e =
+    ap (called_first (reads m)) (read_behind a n k rest end (omega (arith, e)))
 
 abbrev pub reads_after : List (List ℕ) → Option ℕ → Option ℕ
 reads_after names None = None

@@ -1,5 +1,6 @@
 -- What a sink has taken of texts that are handed to it one behind another.
-use Rattle.std.proofs.Common.{◌≡◌, ◌∙◌, ℕ, ◌+◌, length, length-append, Bool, true, List, [], ◌∷◌, ◌++◌, map, Option, Some, None, refl, sym, ap, inl, inr, arith}
+use Rattle.std.proofs.Common.{◌≡◌, ◌∙◌, ℕ, ◌+◌, length, length-append, Bool, true, List, [], ◌∷◌, ◌++◌, map, Option}
+use Rattle.std.proofs.Common.{Some, None, refl, sym, ap, inl, inr, arith}
 use Rattle.std.specs.List.{concat}
 use Rattle.std.proofs.lemmas.List.{append-nil, map-append}
 use Rattle.fd_certfile.specs.fd_outside.Emitted.{Takes, TakesFirst, TakesTorn}
@@ -30,7 +31,8 @@ module _ {S : Type 0} (taken : S → List ℕ) (calls : S → ℕ) where
   wrote_texts old new texts torn bytes_are writes_are = record {
     names = names_of_writes texts;
     bytes_are = bytes_are ∙ ap (λ l. taken old ++ (concat l ++ torn_bytes torn)) (sym (texts_of_writes texts));
-    writes_are = writes_are ∙ ap (λ (l : List (List ℕ)). calls old + (length l + torn_writes torn)) (sym (texts_of_writes texts));
+    writes_are = writes_are ∙ ap (λ (l : List (List ℕ)). calls old + (length l + torn_writes torn))
+        (sym (texts_of_writes texts));
   }
 
   pub wrote_all : (old new : S) (texts : List (List ℕ)) → Takes taken calls old new texts
@@ -90,7 +92,8 @@ module _ {S : Type 0} (taken : S → List ℕ) (calls : S → ℕ) where
 
   pub fault_cut : (old new : S) (f : Fault) (code : ℕ) → IsCutIn taken calls old new (writes (fault_text f) ∷ []) code
       → Printed taken calls old new true (fault_doing f) code
-  fault_cut old new f code c = record { made = c.made; done = inr (c.front, λ told all. cc (c.left all)); wrote = c.wrote }
+  fault_cut old new f code c =
+      record { made = c.made; done = inr (c.front, λ told all. cc (c.left all)); wrote = c.wrote }
 
 -- ---- writes behind others
 
@@ -102,7 +105,9 @@ module _ {S : Type 0} (taken : S → List ℕ) (calls : S → ℕ) where
   pub wrote_then : (old mid new : S) (a : List Call) (m : Made) → Wrote taken calls old mid (whole a)
       → Wrote taken calls mid new m → Wrote taken calls old new (made_after a m)
   wrote_then old mid new a m first second =
-      let both = sees_then {L = Unit {0}} (λ u. []) taken calls tt tt tt old mid new a m (seen_by old mid (whole a) first) (seen_by mid new m second) in
+      let both =
+      sees_then {L = Unit {0}} (λ u. []) taken calls tt tt tt old mid new a m (seen_by old mid (whole a) first)
+      (seen_by mid new m second) in
       record {
         names = names-append a m.calls ∙ ap (λ l. l ++ names_read m.calls) first.names ∙ second.names;
         bytes_are = both.bytes;
@@ -111,7 +116,8 @@ module _ {S : Type 0} (taken : S → List ℕ) (calls : S → ℕ) where
 
   -- what is done of these calls is done of those before and these
   pub printed_then : (tells : Bool) (old mid new : S) (a rest : List Call) (end : Option Fault) (code : ℕ)
-      → Wrote taken calls old mid (whole a) → Printed taken calls mid new tells (record { calls = rest; end = end }) code
+      → Wrote taken calls old mid (whole a)
+      → Printed taken calls mid new tells (record { calls = rest; end = end }) code
       → Printed taken calls old new tells (record { calls = a ++ rest; end = end }) code
   printed_then tells old mid new a rest end code first p = record {
     made = made_after a p.made;

@@ -17,18 +17,30 @@ is_status n a b c d = record { done = a; memory = b; write = c; most = d }
 
 pub statuses : StatusLaw
 statuses fault.Usage = is_status 2 (λ e. omega (arith, e)) (λ e. omega (arith, e)) (λ e. omega (arith, e)) (omega arith)
-statuses (fault.Script place cause) = is_status 3 (λ e. omega (arith, e)) (λ e. omega (arith, e)) (λ e. omega (arith, e)) (omega arith)
-statuses (fault.Read n) = is_status 4 (λ e. omega (arith, e)) (λ e. omega (arith, e)) (λ e. omega (arith, e)) (omega arith)
-statuses (fault.NoInverse unknown cause) = is_status 6 (λ e. omega (arith, e)) (λ e. omega (arith, e)) (λ e. omega (arith, e)) (omega arith)
-statuses (fault.OutOfRange unknown step) = is_status 7 (λ e. omega (arith, e)) (λ e. omega (arith, e)) (λ e. omega (arith, e)) (omega arith)
-statuses (fault.NotConverged unknown steps update) = is_status 8 (λ e. omega (arith, e)) (λ e. omega (arith, e)) (λ e. omega (arith, e)) (omega arith)
-statuses (fault.Loose row mismatch) = is_status 9 (λ e. omega (arith, e)) (λ e. omega (arith, e)) (λ e. omega (arith, e)) (omega arith)
-statuses (fault.NotCertified unknown bound) = is_status 10 (λ e. omega (arith, e)) (λ e. omega (arith, e)) (λ e. omega (arith, e)) (omega arith)
-statuses (fault.Undecided control low high edge scale) = is_status 11 (λ e. omega (arith, e)) (λ e. omega (arith, e)) (λ e. omega (arith, e)) (omega arith)
-statuses (fault.ControlLimit acts) = is_status 12 (λ e. omega (arith, e)) (λ e. omega (arith, e)) (λ e. omega (arith, e)) (omega arith)
-statuses (fault.Certificate line broken) = is_status 13 (λ e. omega (arith, e)) (λ e. omega (arith, e)) (λ e. omega (arith, e)) (omega arith)
-statuses (fault.NoSuchNode node) = is_status 14 (λ e. omega (arith, e)) (λ e. omega (arith, e)) (λ e. omega (arith, e)) (omega arith)
-statuses (fault.NotRadial element) = is_status 15 (λ e. omega (arith, e)) (λ e. omega (arith, e)) (λ e. omega (arith, e)) (omega arith)
+statuses (fault.Script place cause) =
+    is_status 3 (λ e. omega (arith, e)) (λ e. omega (arith, e)) (λ e. omega (arith, e)) (omega arith)
+statuses (fault.Read n) =
+    is_status 4 (λ e. omega (arith, e)) (λ e. omega (arith, e)) (λ e. omega (arith, e)) (omega arith)
+statuses (fault.NoInverse unknown cause) =
+    is_status 6 (λ e. omega (arith, e)) (λ e. omega (arith, e)) (λ e. omega (arith, e)) (omega arith)
+statuses (fault.OutOfRange unknown step) =
+    is_status 7 (λ e. omega (arith, e)) (λ e. omega (arith, e)) (λ e. omega (arith, e)) (omega arith)
+statuses (fault.NotConverged unknown steps update) =
+    is_status 8 (λ e. omega (arith, e)) (λ e. omega (arith, e)) (λ e. omega (arith, e)) (omega arith)
+statuses (fault.Loose row mismatch) =
+    is_status 9 (λ e. omega (arith, e)) (λ e. omega (arith, e)) (λ e. omega (arith, e)) (omega arith)
+statuses (fault.NotCertified unknown bound) =
+    is_status 10 (λ e. omega (arith, e)) (λ e. omega (arith, e)) (λ e. omega (arith, e)) (omega arith)
+statuses (fault.Undecided control low high edge scale) =
+    is_status 11 (λ e. omega (arith, e)) (λ e. omega (arith, e)) (λ e. omega (arith, e)) (omega arith)
+statuses (fault.ControlLimit acts) =
+    is_status 12 (λ e. omega (arith, e)) (λ e. omega (arith, e)) (λ e. omega (arith, e)) (omega arith)
+statuses (fault.Certificate line broken) =
+    is_status 13 (λ e. omega (arith, e)) (λ e. omega (arith, e)) (λ e. omega (arith, e)) (omega arith)
+statuses (fault.NoSuchNode node) =
+    is_status 14 (λ e. omega (arith, e)) (λ e. omega (arith, e)) (λ e. omega (arith, e)) (omega arith)
+statuses (fault.NotRadial element) =
+    is_status 15 (λ e. omega (arith, e)) (λ e. omega (arith, e)) (λ e. omega (arith, e)) (omega arith)
 
 -- ---- exactly one
 
@@ -59,7 +71,8 @@ one_command is_step rest step o =
 
 module _ {S : Type 0} (is_step : Command → S → Step S → Type 0) (last_name : S → Option (List ℕ))
     (is_last : S → Option (List ℕ) → History → Type 0) where
-  module _ (steps : (c : Command) (s : S) → ExactlyOne (is_step c s)) (lasts : (s : S) (found : Option (List ℕ)) → ExactlyOne (is_last s found))
+  module _ (steps : (c : Command) (s : S) → ExactlyOne (is_step c s))
+      (lasts : (s : S) (found : Option (List ℕ)) → ExactlyOne (is_last s found))
       (held : List ℕ → Option (List ℕ)) where
     one_last : (o : Option (List ℕ)) (s : S) → ExactlyOne (IsLast is_step last_name is_last held o s)
     one_last None s = lasts s None
@@ -72,7 +85,8 @@ module _ {S : Type 0} (is_step : Command → S → Step S → Type 0) (last_name
     one_from : (said : List Said) (end : ScriptEnd) (s : S)
         → ExactlyOne (IsHistory is_step last_name is_last held said end s)
     one_from [] end s = one_end end s
-    one_from (name n ∷ more) end s = one_after (asked n ∷ []) (λ x. IsHistory is_step last_name is_last held more end s x) (one_from more end s)
+    one_from (name n ∷ more) end s =
+        one_after (asked n ∷ []) (λ x. IsHistory is_step last_name is_last held more end s x) (one_from more end s)
     one_from (command c ∷ more) end s =
         one_command (λ step. is_step c s step) (λ t x. IsHistory is_step last_name is_last held more end t x)
         (steps c s) (λ t. one_from more end t)
@@ -108,4 +122,5 @@ module _ {S : Type 0} (is_step : Command → S → Step S → Type 0) (last_name
     pub does_command : (c : Command) (more : List Said) (end : ScriptEnd) (s t : S) (events : List Event)
         → is_step c s (goes events t)
         → LeadsTo is_step last_name is_last held (At (command c ∷ more) end s) events (At more end t)
-    does_command c more end s t events step h is = record { step = goes events t; right = step; goes_on = record { more = h; right = is; h_is = refl } }
+    does_command c more end s t events step h is =
+        record { step = goes events t; right = step; goes_on = record { more = h; right = is; h_is = refl } }

@@ -5,7 +5,8 @@ use Rattle.std.proofs.lemmas.List.{append_assoc, append-nil, map-append}
 use Rattle.std.proofs.lemmas.Grind.{flat_map-append}
 use Rattle.fd_report.specs.dss_model.Names.{bytes}
 use Rattle.fd_outcome.specs.Events.{Event}
-use Rattle.fd_outcome.specs.Calls.{Call, reads, writes, Style, opened, body, name_read, names_read, text_written, texts_written, calls_in}
+use Rattle.fd_outcome.specs.Calls.{Call, reads, writes, Style, opened, body, name_read, names_read, text_written}
+use Rattle.fd_outcome.specs.Calls.{texts_written, calls_in}
 use Rattle.fd_outcome.specs.Behind.{has_text, behind, opened_unless}
 
 -- ---- what opens the texts
@@ -48,7 +49,8 @@ pub names_of_opened : (first : List (List ℕ)) (calls : List Call) → names_re
 names_of_opened first [] = refl
 names_of_opened first (reads name ∷ calls) = ap (λ (l : List (List ℕ)). bytes name ∷ l) (names_of_opened first calls)
 names_of_opened first (writes text ∷ calls) =
-    names-append (map writes first) (writes text ∷ calls) ∙ ap (λ l. l ++ names_read (writes text ∷ calls)) (names_of_writes first)
+    names-append (map writes first) (writes text ∷ calls)
+    ∙ ap (λ l. l ++ names_read (writes text ∷ calls)) (names_of_writes first)
 
 pub names_of_event : (style : Style) (e : Event) → names_read (calls_in style e) ≡ map bytes (style.asked_in e)
 names_of_event style e =

@@ -1,6 +1,7 @@
 -- One read behind the last command: what was asked, and what files that agree with the answer hold.
 use Rattle.std.proofs.Common.{◌≡◌, ◌∙◌, ℕ, List, [], ◌∷◌, ◌++◌, Option, Some, Result, Ok, Err, refl, sym, ap, subst}
-use Rattle.fd_certfile.specs.fd_outside.Answers.{Agrees, Answer, EndsFailed, IsLater, Reply, absent, answered, content, failed, names_asked}
+use Rattle.fd_certfile.specs.fd_outside.Answers.{Agrees, Answer, EndsFailed, IsLater, Reply, absent, answered, content}
+use Rattle.fd_certfile.specs.fd_outside.Answers.{failed, names_asked}
 use Rattle.fd_certfile.specs.fd_outside.Files.{AnswersHeld, Files, held}
 use Rattle.fd_certfile.specs.fd_outside.declared.library.Found.{Found}
 use Rattle.fd_certfile.specs.fd_outside.declared.library.Found.TheVariants as was

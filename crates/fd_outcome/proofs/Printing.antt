@@ -1,5 +1,6 @@
 -- Laws of printing.
-use Rattle.std.proofs.Common.{◌≡◌, ◌∙◌, ℕ, zero, suc, ◌+◌, Bool, true, List, [], ◌∷◌, ◌++◌, map, length, Option, Some, None, refl, sym, ap, subst, inl, inr, arith}
+use Rattle.std.proofs.Common.{◌≡◌, ◌∙◌, ℕ, zero, suc, ◌+◌, Bool, true, List, [], ◌∷◌, ◌++◌, map, length, Option, Some}
+use Rattle.std.proofs.Common.{None, refl, sym, ap, subst, inl, inr, arith}
 use Rattle.std.specs.Prelude.{◌⊎◌, ◌||◌, is_some}
 use Rattle.std.specs.List.{flat_map, concat}
 use Rattle.std.proofs.lemmas.List.{append_assoc, append-nil}
@@ -12,12 +13,15 @@ use Rattle.fd_report.specs.declared.faults.Fault.{Fault}
 use Rattle.fd_outcome.specs.Statuses.{status_of, want_of_memory, write_fault}
 use Rattle.fd_outcome.specs.Events.{Event, History, before}
 use Rattle.fd_outcome.specs.Work.{ExactlyOne}
-use Rattle.fd_outcome.specs.Calls.{Call, reads, writes, Style, report, opened, body, so_far, calls_of, Doing, doing, fault_text, names_read, texts_written}
-use Rattle.fd_outcome.specs.Done.{called_first, read_failing, failing, Made, IsAll, IsShort, IsTorn, IsDone, HasReadCause, torn_bytes, torn_writes}
+use Rattle.fd_outcome.specs.Calls.{Call, reads, writes, Style, report, opened, body, so_far, calls_of, Doing, doing}
+use Rattle.fd_outcome.specs.Calls.{fault_text, names_read, texts_written}
+use Rattle.fd_outcome.specs.Done.{called_first, read_failing, failing, Made, IsAll, IsShort, IsTorn, IsDone}
+use Rattle.fd_outcome.specs.Done.{HasReadCause, torn_bytes, torn_writes}
 use Rattle.fd_outcome.specs.Behind.{has_text, behind, opened_unless}
 use Rattle.fd_outcome.specs.Laws.{NamesLaw, IsReadFailing, ReadLaw, IsCut, CutLaw, IsDue}
 use Rattle.fd_outcome.specs.Runs.{Runs}
-use Rattle.fd_outcome.proofs.Lists.{opened-append, opened_behind, body-append, names-append, texts-append, names_of_writes, names_of_opened, names_of_body}
+use Rattle.fd_outcome.proofs.Lists.{opened-append, opened_behind, body-append, names-append, texts-append}
+use Rattle.fd_outcome.proofs.Lists.{names_of_writes, names_of_opened, names_of_body}
 
 -- ---- events that follow others
 
@@ -72,7 +76,8 @@ abbrev at_calls : List Call → Option Fault → Doing
 at_calls calls end = record { calls = calls; end = end }
 
 ReadCase : ℕ → List Call → Option Fault → Type 0
-ReadCase n calls end = (read_failing n calls end ≡ at_calls calls end) ⊎ IsReadFailing n (at_calls calls end) (read_failing n calls end)
+ReadCase n calls end =
+    (read_failing n calls end ≡ at_calls calls end) ⊎ IsReadFailing n (at_calls calls end) (read_failing n calls end)
 
 read_by : (n : ℕ) (calls : List Call) (end : Option Fault) → ReadCase n calls end
 unfolding ReadCase
@@ -123,7 +128,8 @@ whole_front xs ys = front_after xs ys 0 [] (front_none ys)
 
 torn_front : (xs : List (List ℕ)) (text : List ℕ) (ys : List (List ℕ)) (front : List ℕ) → Begins front text
     → IsFront (xs ++ text ∷ ys) (length xs + 1) (concat xs ++ front)
-torn_front xs text ys front begins = front_after xs (text ∷ ys) 1 front (front_more (text ∷ []) ys 1 front (front_one text front begins))
+torn_front xs text ys front begins =
+    front_after xs (text ∷ ys) 1 front (front_more (text ∷ []) ys 1 front (front_one text front begins))
 
 abbrev FrontAt : List (List ℕ) → List (List ℕ) → Option (List ℕ) → Type 0
 FrontAt texts xs torn = IsFront texts (length xs + torn_writes torn) (concat xs ++ torn_bytes torn)
@@ -141,7 +147,8 @@ all_cut : (tells : Bool) (d : Doing) (status : ℕ) (m : Made) → IsAll d statu
 all_cut tells d status m a =
     let e : d.calls ≡ m.calls ++ [] = sym a.calls ∙ sym (append-nil m.calls) in
     record {
-      is_front = front_with (texts_written d.calls) (texts_written m.calls) [] m.torn (ap texts_written e ∙ texts-append m.calls []) a.torn;
+      is_front = front_with (texts_written d.calls) (texts_written m.calls) [] m.torn
+          (ap texts_written e ∙ texts-append m.calls []) a.torn;
       names = rest_names d m.calls [] e;
       answers = inl a.status_is;
       whole = λ h. a.torn;
@@ -163,7 +170,8 @@ torn_cut : (tells : Bool) (d : Doing) (status : ℕ) (m : Made) → IsTorn d.cal
     → ((is_some d.end || tells) ≡ true → m.calls ≡ d.calls → ⊥) → IsCut tells d status m
 torn_cut tells d status m a left =
     let xs = texts_written m.calls in
-    let e : texts_written d.calls ≡ xs ++ a.text ∷ texts_written a.rest = ap texts_written a.calls ∙ texts-append m.calls (writes a.text ∷ a.rest) in
+    let e : texts_written d.calls ≡ xs ++ a.text ∷ texts_written a.rest =
+    ap texts_written a.calls ∙ texts-append m.calls (writes a.text ∷ a.rest) in
     record {
       is_front = subst (λ t. FrontAt (texts_written d.calls) xs t) (sym a.torn)
           (subst (λ l. FrontAt l xs (Some a.front)) (sym e)
@@ -187,7 +195,8 @@ cut_is tells d status m is = elim is [
 
 -- the status of what is done of a history
 pub Answered : Option Fault → Option ℕ → ℕ → Type 0
-Answered end fails code = (code ≡ status_of end) ⊎ ((code ≡ want_of_memory) ⊎ ((code ≡ write_fault) ⊎ ((fails ≡ None → ⊥) × (code ≡ 4))))
+Answered end fails code =
+    (code ≡ status_of end) ⊎ ((code ≡ want_of_memory) ⊎ ((code ≡ write_fault) ⊎ ((fails ≡ None → ⊥) × (code ≡ 4))))
 
 by_end : (style : Style) (h : History) (fails : Option ℕ) (code : ℕ)
     → code ≡ status_of (failing fails (doing style h)).end → Answered h.end fails code
@@ -211,14 +220,16 @@ answer_is style tells h fails code m is = elim is [
 
 -- ---- the status of a run
 
-fail_of : (before now : List Answer) (fails : Option ℕ) → HasReadCause before now fails → (fails ≡ None → ⊥) → HasFailed before now
+fail_of : (before now : List Answer) (fails : Option ℕ) → HasReadCause before now fails → (fails ≡ None → ⊥)
+    → HasFailed before now
 fail_of before now fails cause fails_not = elim cause [
   | inl none ↦ absurd (fails_not none)
   | inr up ↦ up
 ]
 
 DueAt : Option Fault → ℕ → List Answer → List Answer → Type 0
-DueAt end code before now = (code ≡ status_of end) ⊎ ((code ≡ want_of_memory) ⊎ ((code ≡ write_fault) ⊎ (HasFailed before now × (code ≡ 4))))
+DueAt end code before now =
+    (code ≡ status_of end) ⊎ ((code ≡ want_of_memory) ⊎ ((code ≡ write_fault) ⊎ (HasFailed before now × (code ≡ 4))))
 
 due_at : (end : Option Fault) (fails : Option ℕ) (code : ℕ) (before now : List Answer) → HasReadCause before now fails
     → Answered end fails code → DueAt end code before now
@@ -234,7 +245,8 @@ due_at end fails code before now cause is = elim is [
   ]
 ]
 
-completes : (end : Option Fault) (code : ℕ) (before now : List Answer) → DueAt end code before now → (HasFailed before now → ⊥)
+completes : (end : Option Fault) (code : ℕ) (before now : List Answer) → DueAt end code before now
+    → (HasFailed before now → ⊥)
     → (code ≡ write_fault → ⊥) → (code ≡ status_of end) ⊎ (code ≡ want_of_memory)
 unfolding DueAt
 completes end code before now is not_read not_written = elim is [
@@ -248,7 +260,8 @@ completes end code before now is not_read not_written = elim is [
   ]
 ]
 
-is_due : (end : Option Fault) (code : ℕ) (before now : List Answer) → DueAt end code before now → IsDue end code before now
+is_due : (end : Option Fault) (code : ℕ) (before now : List Answer) → DueAt end code before now
+    → IsDue end code before now
 unfolding DueAt
 is_due end code before now at = record { is_due = at; complete = completes end code before now at }
 
@@ -262,4 +275,5 @@ module _ {L S : Type 0} (answers : L → List Answer) (taken : S → List ℕ)
       let same : runs.history ≡ one.some = one.only runs.history runs.right in
       let here = due_at runs.history.end runs.fails code (answers lib_old) (answers lib_new) runs.cause
       (answer_is style tells runs.history runs.fails code runs.made runs.done) in
-      subst (λ (h : History). IsDue h.end code (answers lib_old) (answers lib_new)) same (is_due runs.history.end code (answers lib_old) (answers lib_new) here)
+      subst (λ (h : History). IsDue h.end code (answers lib_old) (answers lib_new)) same
+      (is_due runs.history.end code (answers lib_old) (answers lib_new) here)

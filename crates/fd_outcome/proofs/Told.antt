@@ -1,5 +1,6 @@
 -- Where a text tells the end, no run that is cut short has made all calls.
-use Rattle.std.proofs.Common.{◌≡◌, ◌∙◌, ℕ, ◌+◌, Bool, true, false, length, length-append, List, [], ◌∷◌, ◌++◌, map, Option, Some, None, refl, sym, ap, subst, inl, inr, arith}
+use Rattle.std.proofs.Common.{◌≡◌, ◌∙◌, ℕ, ◌+◌, Bool, true, false, length, length-append, List, [], ◌∷◌, ◌++◌, map}
+use Rattle.std.proofs.Common.{Option, Some, None, refl, sym, ap, subst, inl, inr, arith}
 use Rattle.std.specs.Prelude.{◌||◌, is_some}
 use Rattle.std.proofs.lemmas.List.{append_assoc}
 use Rattle.fd_report.specs.dss_model.declared.command.Command.{Command}
@@ -99,7 +100,8 @@ module _ (style : Style) where
     all_told events None told by_end e = last_told false events None told by_end e
     all_told events (Some f) told by_end e = last_told false events (Some f) told by_end e
 
-    pub told_more : (front events : List Event) (end : Option Fault) → IsToldBy events end → IsToldBy (front ++ events) end
+    pub told_more : (front events : List Event) (end : Option Fault) → IsToldBy events end
+        → IsToldBy (front ++ events) end
     told_more front events end by_end told none e =
         by_end told none (behind_empty (body style front) (body style events ++ map writes style.closing)
         (sym (append_assoc (body style front) (body style events) (map writes style.closing))
@@ -117,10 +119,12 @@ module _ (style : Style) where
 module _ {T : Type 0} (is_step : Command → T → Step T → Type 0) (last_name : T → Option (List ℕ))
     (is_last : T → Option (List ℕ) → History → Type 0) (held : List ℕ → Option (List ℕ)) (style : Style) (tells : Bool)
     (law : TellsEnd tells style is_last) where
-  told_last : (n : Option (List ℕ)) (s : T) (h : History) → IsLast is_step last_name is_last held n s h → IsToldBy style tells h.events h.end
+  told_last : (n : Option (List ℕ)) (s : T) (h : History) → IsLast is_step last_name is_last held n s h
+      → IsToldBy style tells h.events h.end
   told_last None s h is = λ told none e. law s None h told is none e
   told_last (Some n) s h is =
-      told_before style tells (asked n ∷ []) is.more h (λ told none e. law s (held n) is.more told is.right none e) is.h_is
+      told_before style tells (asked n ∷ []) is.more h
+      (λ told none e. law s (held n) is.more told is.right none e) is.h_is
 
   -- whatever stands before a history
   pub told_history : (left : List Said) (end : ScriptEnd) (s : T) (h : History)
@@ -129,11 +133,13 @@ module _ {T : Type 0} (is_step : Command → T → Step T → Type 0) (last_name
   told_history [] (refused_at place c) s h is = told_fault style tells [] _ h is
   told_history (name n ∷ more) end s h is =
       told_before style tells (asked n ∷ []) is.more h (told_history more end s is.more is.right) is.h_is
-  told_history (command c ∷ more) end s h is = told_step is.step h is.goes_on (λ t x right. told_history more end t x right)
+  told_history (command c ∷ more) end s h is =
+      told_step is.step h is.goes_on (λ t x right. told_history more end t x right)
     where
       told_step : (step : Step T) (h : History)
           → AfterStep step (λ t x. IsHistory is_step last_name is_last held more end t x) h
-          → ((t : T) (x : History) → IsHistory is_step last_name is_last held more end t x → IsToldBy style tells x.events x.end)
+          → ((t : T) (x : History) → IsHistory is_step last_name is_last held more end t x
+          → IsToldBy style tells x.events x.end)
           → IsToldBy style tells h.events h.end
       told_step (goes events t) h after again =
           told_before style tells events after.more h (again t after.more after.right) after.h_is

@@ -1,5 +1,6 @@
 -- The way of a run.
-use Rattle.std.proofs.Common.{◌≡◌, ◌∙◌, ℕ, ◌+◌, Bool, true, false, List, [], ◌∷◌, ◌++◌, map, length, length-append, Option, Some, None, refl, sym, ap, subst, inl, inr, arith}
+use Rattle.std.proofs.Common.{◌≡◌, ◌∙◌, ℕ, ◌+◌, Bool, true, false, List, [], ◌∷◌, ◌++◌, map, length, length-append}
+use Rattle.std.proofs.Common.{Option, Some, None, refl, sym, ap, subst, inl, inr, arith}
 use Rattle.std.specs.List.{concat}
 use Rattle.std.specs.Prelude.{◌||◌, is_some}
 use Rattle.std.proofs.lemmas.List.{append_assoc, append_cancel_left, append-nil, map-append}
@@ -13,8 +14,10 @@ use Rattle.fd_report.specs.declared.faults.Fault.TheVariants as fault
 use Rattle.fd_outcome.specs.Events.{Event, asked, History, before}
 use Rattle.fd_outcome.specs.Work.{Step}
 use Rattle.fd_outcome.specs.History.{Point, IsFrom, LeadsTo}
-use Rattle.fd_outcome.specs.Calls.{Call, reads, writes, Style, opened, so_far, body, calls_in, doing, Doing, fault_text, names_read, texts_written}
-use Rattle.fd_outcome.specs.Done.{called_first, read_failing, failing, Made, IsCutShort, IsDone, IsFrontOf, Sees, torn_bytes, torn_writes}
+use Rattle.fd_outcome.specs.Calls.{Call, reads, writes, Style, opened, so_far, body, calls_in, doing, Doing, fault_text}
+use Rattle.fd_outcome.specs.Calls.{names_read, texts_written}
+use Rattle.fd_outcome.specs.Done.{called_first, read_failing, failing, Made, IsCutShort, IsDone, IsFrontOf, Sees}
+use Rattle.fd_outcome.specs.Done.{torn_bytes, torn_writes}
 use Rattle.fd_outcome.specs.Behind.{behind, has_text, AsksNames}
 use Rattle.fd_outcome.specs.Runs.{Runs}
 use Rattle.fd_outcome.specs.Way.{Way, whole}
@@ -28,7 +31,8 @@ abbrev pub made_after : List Call → Made → Made
 made_after calls m = record { calls = calls ++ m.calls; torn = m.torn }
 
 bytes_join : (bs : List ℕ) (a b : List Call) (torn : List ℕ)
-    → (bs ++ (concat (texts_written a) ++ [])) ++ (concat (texts_written b) ++ torn) ≡ bs ++ (concat (texts_written (a ++ b)) ++ torn)
+    → (bs ++ (concat (texts_written a) ++ [])) ++ (concat (texts_written b) ++ torn) ≡ bs
+    ++ (concat (texts_written (a ++ b)) ++ torn)
 bytes_join bs a b torn =
     let x = concat (texts_written a) in
     let y = concat (texts_written b) in
@@ -75,13 +79,15 @@ module _ {L S : Type 0} (answers : L → List Answer) (taken : S → List ℕ) (
   sees_names lib lib_new out names grown = record {
     names = grown ∙ ap (λ l. names_asked (answers lib) ++ l) (sym (names_of_reads names));
     bytes = sym (ap (λ l. taken out ++ (concat l ++ [])) (texts_of_reads names) ∙ append-nil (taken out));
-    writes = let e : length (texts_written (map reads names)) ≡ 0 = ap length (texts_of_reads names) in omega (arith, e);
+    writes = let e : length (texts_written (map reads names))
+        ≡ 0 = ap length (texts_of_reads names) in omega (arith, e);
   }
 
   pub sees_as : (lib_old lib_new : L) (old new : S) (a b : List Call) → a ≡ b
       → Sees answers taken calls lib_old lib_new old new (whole a)
       → Sees answers taken calls lib_old lib_new old new (whole b)
-  sees_as lib_old lib_new old new a b e = subst (λ (l : List Call). Sees answers taken calls lib_old lib_new old new (whole l)) e
+  sees_as lib_old lib_new old new a b e =
+      subst (λ (l : List Call). Sees answers taken calls lib_old lib_new old new (whole l)) e
 
 -- names alone are reads
 reads_opened : (first : List (List ℕ)) (names : List (List ℕ)) → opened first (map reads names) ≡ map reads names
@@ -103,14 +109,22 @@ body_reads style h (n ∷ names) =
 pub reads_alone : (style : Style) → AsksNames style → (t : Bool) (names : List (List ℕ))
     → behind style t (map asked names) ≡ map reads names
 reads_alone style h true names = body_reads style h names
-reads_alone style h false names = ap (opened style.opening) (body_reads style h names) ∙ reads_opened style.opening names
+reads_alone style h false names =
+    ap (opened style.opening) (body_reads style h names) ∙ reads_opened style.opening names
 
 -- ---- fronts of calls behind others
 
 pub front_after : (a rest : List Call) (status : ℕ) (m : Made) → IsFrontOf rest status m
     → IsFrontOf (a ++ rest) status (made_after a m)
 front_after a rest status m front = elim front [
-  | inl x ↦ inl (record { rest = x.rest; calls = ap (λ l. a ++ l) x.calls ∙ sym (append_assoc a m.calls x.rest); torn = x.torn; status_is = x.status_is })
+  | inl x ↦ inl
+      (record {
+        rest = x.rest;
+        calls = ap (λ l. a ++ l) x.calls
+            ∙ sym (append_assoc a m.calls x.rest);
+        torn = x.torn;
+        status_is = x.status_is;
+      })
   | inr x ↦ inr (record {
     text = x.text;
     rest = x.rest;
@@ -127,7 +141,8 @@ pub short_after : (told : Bool) (a rest : List Call) (status : ℕ) (m : Made) �
 short_after told a rest status m cut =
     (front_after a rest status m cut.0, λ is all. cut.1 is (append_cancel_left a m.calls rest all))
 
-pub done_after : (tells : Bool) (a rest : List Call) (all : List Call) (end : Option Fault) (status : ℕ) (m : Made) → all ≡ a ++ rest
+pub done_after : (tells : Bool) (a rest : List Call) (all : List Call) (end : Option Fault) (status : ℕ) (m : Made)
+    → all ≡ a ++ rest
     → IsDone tells (record { calls = rest; end = end }) status m
     → IsDone tells (record { calls = all; end = end }) status (made_after a m)
 done_after tells a rest all end status m e is = elim is [
@@ -171,12 +186,14 @@ module _ {T : Type 0} (is_step : Command → T → Step T → Type 0) (last_name
   }
 
   -- of the calls that are left from here, all are made or a front
-  pub ended_at : (p q : Point T) (lib_first lib lib_new : L) (out_first out out_new : S) (h : History) (rest : List Call) (code : ℕ) (m : Made)
+  pub ended_at : (p q : Point T) (lib_first lib lib_new : L) (out_first out out_new : S) (h : History)
+      (rest : List Call) (code : ℕ) (m : Made)
       → (w : WayTo p lib_first out_first q lib out) → IsFrom is_step last_name is_last held q h
       → (doing style (before w.events h)).calls ≡ so_far style w.events ++ rest
       → IsDone tells (record { calls = rest; end = h.end }) code m
       → Sees answers taken calls lib lib_new out out_new m
-      → Runs answers taken calls lib_first lib_new out_first out_new (IsFrom is_step last_name is_last held p) style tells code
+      → Runs answers taken calls lib_first lib_new out_first out_new
+      (IsFrom is_step last_name is_last held p) style tells code
   ended_at p q lib_first lib lib_new out_first out out_new h rest code m w is rest_is done sees =
       record {
         history = before w.events h;
@@ -184,8 +201,10 @@ module _ {T : Type 0} (is_step : Command → T → Step T → Type 0) (last_name
         fails = None;
         cause = inl refl;
         made = made_after (so_far style w.events) m;
-        done = done_after tells (so_far style w.events) rest (doing style (before w.events h)).calls h.end code m rest_is done;
-        sees = sees_then answers taken calls lib_first lib lib_new out_first out out_new (so_far style w.events) m w.seen sees;
+        done = done_after tells (so_far style w.events) rest
+            (doing style (before w.events h)).calls h.end code m rest_is done;
+        sees = sees_then answers taken calls lib_first lib lib_new out_first out out_new
+            (so_far style w.events) m w.seen sees;
       }
 
   pub names_lead : (names : List (List ℕ)) (more : List Said) (end : ScriptEnd) (s : T)
@@ -199,11 +218,13 @@ module _ {T : Type 0} (is_step : Command → T → Step T → Type 0) (last_name
   -- where these events end with a name and its read fails, what was made of them is done
   unread_done : (events : List Event) (b : List Call) (n : List ℕ) (h : History) (code : ℕ) (m : Made)
       → so_far style events ≡ b ++ reads n ∷ []
-      → IsDone tells (record { calls = b ++ reads n ∷ writes (fault_text (fault.Read n)) ∷ []; end = Some (fault.Read n) }) code m
+      → IsDone tells
+      (record { calls = b ++ reads n ∷ writes (fault_text (fault.Read n)) ∷ []; end = Some (fault.Read n) }) code m
       → IsDone tells (failing (Some (length (names_read b))) (doing style (before events h))) code m
   unread_done events b n h code m first at =
       let f = front_is style events h in
-      let split : (doing style (before events h)).calls ≡ b ++ reads n ∷ f.0 = f.1 ∙ ap (λ l. l ++ f.0) first ∙ append_assoc b (reads n ∷ []) f.0 in
+      let split : (doing style (before events h)).calls ≡ b ++ reads n ∷ f.0 =
+      f.1 ∙ ap (λ l. l ++ f.0) first ∙ append_assoc b (reads n ∷ []) f.0 in
       let cut : failing (Some (length (names_read b))) (doing style (before events h))
       ≡ record { calls = b ++ reads n ∷ writes (fault_text (fault.Read n)) ∷ []; end = Some (fault.Read n) } =
       ap (λ (l : List Call). read_failing (length (names_read b)) l h.end) split ∙ fails_there b n f.0 h.end in
@@ -214,9 +235,15 @@ module _ {T : Type 0} (is_step : Command → T → Step T → Type 0) (last_name
       (m : Made)
       → WayTo p lib_first out_first (At (map name names ++ name n ∷ more) end s) lib out
       → IsFrom is_step last_name is_last held (At more end s) h → HasFailed (answers lib_first) (answers lib_new)
-      → IsDone tells (record { calls = map reads names ++ reads n ∷ writes (fault_text (fault.Read n)) ∷ []; end = Some (fault.Read n) }) code m
+      → IsDone tells
+      (record {
+        calls = map reads names
+            ++ reads n ∷ writes (fault_text (fault.Read n)) ∷ [];
+        end = Some (fault.Read n);
+      }) code m
       → Sees answers taken calls lib lib_new out out_new m
-      → Runs answers taken calls lib_first lib_new out_first out_new (IsFrom is_step last_name is_last held p) style tells code
+      → Runs answers taken calls lib_first lib_new out_first out_new
+      (IsFrom is_step last_name is_last held p) style tells code
   ended_at_read p lib_first lib lib_new out_first out out_new fits names n more end s h code m w is up done sees =
       let a = so_far style w.events in
       let b = a ++ map reads names in
@@ -234,8 +261,11 @@ module _ {T : Type 0} (is_step : Command → T → Step T → Type 0) (last_name
       ap (behind style t) (sym new_is) ∙ reads_alone style fits t (names ++ n ∷ []) ∙ map-append reads names (n ∷ []) in
       let first : so_far style events ≡ b ++ reads n ∷ [] =
       append_is style w.events new ∙ ap (λ l. a ++ l) alone ∙ sym (append_assoc a (map reads names) (reads n ∷ [])) in
-      let at : IsDone tells (record { calls = b ++ reads n ∷ writes (fault_text (fault.Read n)) ∷ []; end = Some (fault.Read n) }) code (made_after a m) =
-      done_after tells a (map reads names ++ reads n ∷ writes (fault_text (fault.Read n)) ∷ []) _ (Some (fault.Read n)) code m
+      let at : IsDone tells
+      (record { calls = b ++ reads n ∷ writes (fault_text (fault.Read n)) ∷ []; end = Some (fault.Read n) }) code
+      (made_after a m) =
+      done_after tells a (map reads names ++ reads n ∷ writes (fault_text (fault.Read n)) ∷ []) _
+      (Some (fault.Read n)) code m
       (append_assoc a (map reads names) (reads n ∷ writes (fault_text (fault.Read n)) ∷ [])) done in
       record {
         history = before events h;

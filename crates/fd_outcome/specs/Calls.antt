@@ -5,11 +5,12 @@ use Rattle.fd_report.specs.dss_model.Names.{bytes}
 use Rattle.fd_report.specs.Faults.{fields}
 use Rattle.fd_report.specs.Lines.{line_of}
 use Rattle.fd_report.specs.declared.faults.Fault.{Fault}
-use Rattle.fd_outcome.specs.Events.{Event, History, name_in}
+use Rattle.fd_outcome.specs.Events.{Event, History, name_in, settle}
 use Rattle.fd_certfile.specs.Lines.{header, line_bytes}
 use Rattle.fd_certfile.specs.Lines as text
 use Rattle.fd_outcome.specs.Certificates.{certificate_texts}
 use Rattle.fd_outcome.specs.Pages.{report_texts}
+use Rattle.fd_outcome.specs.Settles.{Settle}
 
 -- a file of this name is asked of the library, or a text is handed to the sink by one write
 pub data Call : Type 0 where
@@ -28,6 +29,15 @@ pub record Style : Type 0 where
 
 abbrev pub report : Style
 report = record { asked_in = name_in; texts_in = report_texts; opening = []; closing = [] }
+
+-- a settle, and with it what stands behind it
+abbrev pub texts_with : (Settle → List Event) → Event → List (List ℕ)
+texts_with beside (settle s) = report_texts (settle s) ++ flat_map report_texts (beside s)
+texts_with beside other = report_texts other
+
+-- the report of these events and of what stands behind their settles
+abbrev pub report_with : (Settle → List Event) → Style
+report_with beside = record { asked_in = name_in; texts_in = texts_with beside; opening = []; closing = [] }
 
 -- the version stands before the first block, or before the end where there is none
 abbrev pub certificate : Style

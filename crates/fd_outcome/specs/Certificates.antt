@@ -8,7 +8,7 @@ use Rattle.fd_certfile.specs.declared.version.Version.TheVariants.{Sparse}
 use Rattle.fd_certfile.specs.Blocks as block
 use Rattle.fd_certfile.specs.Lines.{line_bytes}
 use Rattle.fd_certfile.specs.Rounds.{part_in}
-use Rattle.fd_outcome.specs.Events.{Event, asked, settle, row, line}
+use Rattle.fd_outcome.specs.Events.{Event, asked, settle, waits, swept, row, line}
 use Rattle.fd_outcome.specs.Settles.{Round, Settle, SettleEnd, claim_in, settled, failed, without_certificate}
 
 -- an act by its time, its control and its steps
@@ -53,5 +53,7 @@ blocks_texts (b ∷ blocks) = block_texts b ++ blocks_texts blocks
 abbrev pub certificate_texts : Event → List (List ℕ)
 certificate_texts (asked name) = []
 certificate_texts (settle s) = blocks_texts (blocks_of s)
+certificate_texts (waits c es) = []
+certificate_texts (swept c m ladder) = []
 certificate_texts (row fields) = []
 certificate_texts (line text) = (text ++ 10 ∷ []) ∷ []

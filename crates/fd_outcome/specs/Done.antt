@@ -1,5 +1,6 @@
 -- What is done of it: where a read fails, memory runs out or a write fails, a front.
-use Rattle.std.specs.Prelude.{◌≡◌, ◌⊎◌, ℕ, zero, suc, ◌+◌, ◌||◌, Bool, true, List, [], ◌∷◌, ◌++◌, length, Option, Some, None, is_some}
+use Rattle.std.specs.Prelude.{◌≡◌, ◌⊎◌, ℕ, zero, suc, ◌+◌, ◌||◌, Bool, true, List, [], ◌∷◌, ◌++◌, length, Option, Some}
+use Rattle.std.specs.Prelude.{None, is_some}
 use Rattle.std.specs.List.{concat}
 use Rattle.fd_certfile.specs.fd_outside.Answers.{Answer, HasFailed, names_asked}
 use Rattle.fd_certfile.specs.fd_outside.Pieces.{IsCut}
@@ -17,7 +18,8 @@ called_first call d = record { calls = call ∷ d.calls; end = d.end }
 abbrev pub read_failing : ℕ → List Call → Option Fault → Doing
 read_failing n [] end = record { calls = []; end = end }
 read_failing n (writes text ∷ calls) end = called_first (writes text) (read_failing n calls end)
-read_failing zero (reads name ∷ calls) end = record { calls = reads name ∷ writes (fault_text (fault.Read name)) ∷ []; end = Some (fault.Read name) }
+read_failing zero (reads name ∷ calls) end =
+    record { calls = reads name ∷ writes (fault_text (fault.Read name)) ∷ []; end = Some (fault.Read name) }
 read_failing (suc n) (reads name ∷ calls) end = called_first (reads name) (read_failing n calls end)
 
 abbrev pub failing : Option ℕ → Doing → Doing
@@ -78,7 +80,8 @@ torn_writes None = 0
 torn_writes (Some front) = 1
 
 -- the names asked grow by those that were read, the bytes taken by the texts that were written, one write for each
-pub record Sees {L S : Type 0} (answers : L → List Answer) (taken : S → List ℕ) (calls : S → ℕ) (lib_old lib_new : L) (old new : S)
+pub record Sees {L S : Type 0} (answers : L → List Answer) (taken : S → List ℕ) (calls : S → ℕ) (lib_old lib_new : L)
+    (old new : S)
     (m : Made) : Type 0 where
   pub names : names_asked (answers lib_new) ≡ names_asked (answers lib_old) ++ names_read m.calls
   pub bytes : taken new ≡ taken old ++ (concat (texts_written m.calls) ++ torn_bytes m.torn)

@@ -1,7 +1,11 @@
 -- What happens in a command line: events in order, and an end.
 use Rattle.std.specs.Prelude.{ℕ, List, [], ◌∷◌, ◌++◌, Option, Some, None}
 use Rattle.std.specs.List.{All, flat_map}
+use Rattle.fd_report.specs.dss_circuit.Circuit.{CircuitView}
+use Rattle.fd_report.specs.fd_enclosure.Sound.{Claim}
+use Rattle.fd_report.specs.fd_queue.declared.entry.Entry.{Entry}
 use Rattle.fd_report.specs.declared.faults.Fault.{Fault}
+use Rattle.fd_report.specs.declared.ladders.Ladder.{Ladder}
 use Rattle.fd_outcome.specs.Settles.{Settle}
 
 -- Names are texts.
@@ -9,6 +13,10 @@ pub data Event : Type 0 where
   -- a file is asked for by name
   asked : List ℕ → Event
   settle : Settle → Event
+  -- a Solve of a circuit is done, and these entries wait in the queue of its controls
+  waits : CircuitView → List Entry → Event
+  -- a ladder sweep of a circuit, and what it comes to beside a certified state
+  swept : CircuitView → Claim → Ladder → Event
   -- a record by its fields
   row : List (List ℕ) → Event
   -- a line of text without its line feed
@@ -36,6 +44,14 @@ name_in other = []
 -- the names asked for, in order
 abbrev pub names_of : List Event → List (List ℕ)
 names_of events = flat_map name_in events
+
+-- these events, and behind each settle what stands beside it
+abbrev pub with_behind : (Settle → List Event) → Event → List Event
+with_behind beside (settle s) = settle s ∷ beside s
+with_behind beside other = other ∷ []
+
+abbrev pub behind_settles : (Settle → List Event) → List Event → List Event
+behind_settles beside events = flat_map (with_behind beside) events
 
 -- ---- a property of settles
 

@@ -15,7 +15,8 @@ pub record Point (S : Type 0) : Type 0 where
 
 -- A command line gives what a command comes to, the name that it asks for behind the last command, where it asks for
 -- one, and what it does then, by what is held under that name.
-module _ {S : Type 0} (is_step : Command → S → Step S → Type 0) (last_name : S → Option (List ℕ)) (is_last : S → Option (List ℕ) → History → Type 0)
+module _ {S : Type 0} (is_step : Command → S → Step S → Type 0) (last_name : S → Option (List ℕ))
+    (is_last : S → Option (List ℕ) → History → Type 0)
     (held : List ℕ → Option (List ℕ)) where
   abbrev pub IsLast : Option (List ℕ) → S → History → Type 0
   IsLast None s h = is_last s None h

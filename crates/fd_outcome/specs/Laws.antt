@@ -1,5 +1,6 @@
 -- There is exactly one history, and what is done of it.
-use Rattle.std.specs.Prelude.{◌≡◌, ◌⊎◌, ℕ, ◌+◌, ◌≤◌, ◌||◌, Bool, true, List, ◌∷◌, [], ◌++◌, length, Option, Some, None, is_some, map}
+use Rattle.std.specs.Prelude.{◌≡◌, ◌⊎◌, ℕ, ◌+◌, ◌≤◌, ◌||◌, Bool, true, List, ◌∷◌, [], ◌++◌, length, Option, Some, None}
+use Rattle.std.specs.Prelude.{is_some, map}
 use Rattle.std.specs.List.{concat}
 use Rattle.fd_certfile.specs.fd_outside.Answers.{Answer, HasFailed}
 use Rattle.fd_certfile.specs.fd_outside.Emitted.{IsFront}
@@ -13,7 +14,8 @@ use Rattle.fd_outcome.specs.Statuses.{status_of, want_of_memory, write_fault}
 use Rattle.fd_outcome.specs.Events.{History, names_of}
 use Rattle.fd_outcome.specs.Work.{Step, ExactlyOne}
 use Rattle.fd_outcome.specs.History.{IsHistory, IsFrom, Point}
-use Rattle.fd_outcome.specs.Calls.{Call, reads, writes, Style, report, Doing, doing, fault_text, names_read, texts_written}
+use Rattle.fd_outcome.specs.Calls.{Call, reads, writes, Style, report, Doing, doing, fault_text, names_read}
+use Rattle.fd_outcome.specs.Calls.{texts_written}
 use Rattle.fd_outcome.specs.Done.{failing, Made, IsDone, torn_bytes, torn_writes}
 use Rattle.fd_outcome.specs.Runs.{Runs}
 
@@ -35,8 +37,10 @@ StatusLaw = (f : Fault) → IsFaultStatus (status f)
 abbrev pub HistoryLaw : {S : Type 0} → (Command → S → Step S → Type 0) → (S → Option (List ℕ))
     → (S → Option (List ℕ) → History → Type 0) → Type 0
 HistoryLaw {S} is_step last_name is_last =
-    ((c : Command) (s : S) → ExactlyOne (is_step c s)) → ((s : S) (found : Option (List ℕ)) → ExactlyOne (is_last s found)) →
-    (held : List ℕ → Option (List ℕ)) (said : List Said) (end : ScriptEnd) (s : S) → ExactlyOne (IsHistory is_step last_name is_last held said end s)
+    ((c : Command) (s : S) → ExactlyOne (is_step c s))
+    → ((s : S) (found : Option (List ℕ)) → ExactlyOne (is_last s found)) →
+    (held : List ℕ → Option (List ℕ)) (said : List Said) (end : ScriptEnd) (s : S)
+    → ExactlyOne (IsHistory is_step last_name is_last held said end s)
 
 -- ---- names
 
@@ -62,7 +66,8 @@ ReadLaw = (n : ℕ) (d : Doing) → (failing (Some n) d ≡ d) ⊎ IsReadFailing
 -- What was written is a front of the texts: so many writes, of which the last may be torn; at want of memory whole
 -- texts. Where all calls are made and the last tells the end, the status is the end's.
 pub record IsCut (tells : Bool) (d : Doing) (code : ℕ) (m : Made) : Type 0 where
-  pub is_front : IsFront (texts_written d.calls) (length (texts_written m.calls) + torn_writes m.torn) (concat (texts_written m.calls) ++ torn_bytes m.torn)
+  pub is_front : IsFront (texts_written d.calls) (length (texts_written m.calls) + torn_writes m.torn)
+      (concat (texts_written m.calls) ++ torn_bytes m.torn)
   pub names : (rest : List (List ℕ)) × (names_read d.calls ≡ names_read m.calls ++ rest)
   pub answers : (code ≡ status_of d.end) ⊎ ((code ≡ want_of_memory) ⊎ (code ≡ write_fault))
   pub whole : (code ≡ write_fault → ⊥) → m.torn ≡ None
@@ -76,13 +81,17 @@ CutLaw = (tells : Bool) (d : Doing) (code : ℕ) (m : Made) → IsDone tells d c
 -- the status of a run is that of the one history's end, unless memory ran out, a write failed, or a read did; so where
 -- none failed it is that status or want of memory
 pub record IsDue (end : Option Fault) (code : ℕ) (before now : List Answer) : Type 0 where
-  pub is_due : (code ≡ status_of end) ⊎ ((code ≡ want_of_memory) ⊎ ((code ≡ write_fault) ⊎ (HasFailed before now × (code ≡ 4))))
-  pub complete : (HasFailed before now → ⊥) → (code ≡ write_fault → ⊥) → (code ≡ status_of end) ⊎ (code ≡ want_of_memory)
+  pub is_due : (code ≡ status_of end) ⊎
+      ((code ≡ want_of_memory) ⊎ ((code ≡ write_fault) ⊎ (HasFailed before now × (code ≡ 4))))
+  pub complete : (HasFailed before now → ⊥) → (code ≡ write_fault → ⊥)
+      → (code ≡ status_of end) ⊎ (code ≡ want_of_memory)
 
-module _ {T L S : Type 0} (is_step : Command → T → Step T → Type 0) (last_name : T → Option (List ℕ)) (is_last : T → Option (List ℕ) → History → Type 0)
+module _ {T L S : Type 0} (is_step : Command → T → Step T → Type 0) (last_name : T → Option (List ℕ))
+    (is_last : T → Option (List ℕ) → History → Type 0)
     (answers : L → List Answer) (taken : S → List ℕ) (calls : S → ℕ) where
   abbrev pub DueLaw : (List ℕ → Option (List ℕ)) → Style → Bool → Point T → L → L → S → S → ℕ → Type 0
   DueLaw held style tells p lib_old lib_new old new code =
       (one : ExactlyOne (λ h. IsFrom is_step last_name is_last held p h)) →
-      Runs answers taken calls lib_old lib_new old new (λ h. IsFrom is_step last_name is_last held p h) style tells code →
+      Runs answers taken calls lib_old lib_new old new
+      (λ h. IsFrom is_step last_name is_last held p h) style tells code →
       IsDue one.some.end code (answers lib_old) (answers lib_new)

@@ -1,5 +1,6 @@
 -- What events are printed as.
-use Rattle.std.specs.Prelude.{ℕ, ◌+◌, ◌==◌, Bool, true, false, List, [], ◌∷◌, ◌++◌, filter, map, slice_get, Option, Some, None, if◌then◌else◌}
+use Rattle.std.specs.Prelude.{ℕ, ◌+◌, ◌==◌, Bool, true, false, List, [], ◌∷◌, ◌++◌, filter, map, slice_get, Option}
+use Rattle.std.specs.Prelude.{Some, None, if◌then◌else◌}
 use Rattle.std.specs.List.{flat_map, zip}
 use Rattle.fd_report.specs.dss_model.declared.element.Element.{Element}
 use Rattle.fd_report.specs.dss_model.declared.element.Element.TheVariants as the
@@ -11,14 +12,16 @@ use Rattle.fd_report.specs.fd_sample.declared.probe.Probe.{Probe}
 use Rattle.fd_report.specs.fd_sample.declared.probe.Probe.TheVariants as probe
 use Rattle.fd_report.specs.fd_sample.Circuits.{probes_of}
 use Rattle.fd_report.specs.fd_sample.Regulators.{changer_of}
-use Rattle.fd_report.specs.Controls.{act_fields, bank_fields, tap_fields}
+use Rattle.fd_report.specs.fd_queue.declared.entry.Entry.{Entry}
+use Rattle.fd_report.specs.Controls.{act_fields, bank_fields, pending_fields, tap_fields}
+use Rattle.fd_report.specs.Ladders.{ladder_fields}
 use Rattle.fd_report.specs.declared.controls.Position.{Position}
 use Rattle.fd_report.specs.declared.controls.Position.TheVariants as position
 use Rattle.fd_report.specs.Lines.{line_of, lines_of}
 use Rattle.fd_report.specs.Records.{report_of}
 use Rattle.fd_report.specs.Solutions.{SolutionView, solution_of}
 use Rattle.fd_outcome.specs.Settles.{Round, Settle, SettleEnd, settled, failed, without_certificate}
-use Rattle.fd_outcome.specs.Events.{Event, asked, settle, row, line}
+use Rattle.fd_outcome.specs.Events.{Event, asked, settle, waits, swept, row, line}
 
 -- ---- controls
 
@@ -53,6 +56,15 @@ tap_rows_by at name (probe.Bank p) = []
 abbrev pub tap_rows : Elements → Positions → List (List (List ℕ))
 tap_rows es at = flat_map (λ c. tap_rows_by at c.0.0 c.1) (zip (controls_of es) (probes_of es))
 
+-- the row of an entry of one of these controls
+abbrev pub pending_rows_by : Option (ElementName × Element) → Entry → List (List (List ℕ))
+pending_rows_by None e = []
+pending_rows_by (Some c) e = pending_fields e.time c.0 e.up ∷ []
+
+-- a row for each entry, in the order of the queue
+abbrev pub pending_rows : Elements → List Entry → List (List (List ℕ))
+pending_rows controls es = flat_map (λ e. pending_rows_by (slice_get controls e.control) e) es
+
 -- ---- banks
 
 abbrev pub is_bank : Element → Bool
@@ -78,7 +90,9 @@ solution_in r = solution_of r.centre r.radii r.boxes r.mismatches
 
 -- a round by its number in the settle, and then its acts
 abbrev pub round_rows : Settle → ℕ → Round → List (List (List ℕ))
-round_rows s k r = report_of (layout_of s.circuit.elements) s.number s.hour k (solution_in r) ++ act_rows (controls_of s.circuit.elements) r.acts
+round_rows s k r =
+    report_of (layout_of s.circuit.elements) s.number s.hour k (solution_in r)
+    ++ act_rows (controls_of s.circuit.elements) r.acts
 
 -- rounds of which so many went before
 abbrev pub rounds_rows : Settle → ℕ → List Round → List (List (List ℕ))
@@ -98,5 +112,7 @@ report_rows s = rounds_rows s 0 s.rounds ++ end_rows s s.end
 abbrev pub report_texts : Event → List (List ℕ)
 report_texts (asked name) = []
 report_texts (settle s) = lines_of (report_rows s)
+report_texts (waits c es) = lines_of (pending_rows (controls_of c.elements) es)
+report_texts (swept c m ladder) = line_of (ladder_fields ladder) ∷ []
 report_texts (row fields) = line_of fields ∷ []
 report_texts (line text) = (text ++ 10 ∷ []) ∷ []

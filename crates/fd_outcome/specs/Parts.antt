@@ -1,5 +1,6 @@
 -- What a script's session, a command line and a sink promise the loop over the script's commands.
-use Rattle.std.specs.Prelude.{◌≡◌, ◌⊎◌, ℕ, ◌+◌, ◌||◌, Bool, true, List, [], ◌∷◌, ◌++◌, map, length, Option, Some, None, Result, Ok, Err}
+use Rattle.std.specs.Prelude.{◌≡◌, ◌⊎◌, ℕ, ◌+◌, ◌||◌, Bool, true, List, [], ◌∷◌, ◌++◌, map, length, Option, Some, None}
+use Rattle.std.specs.Prelude.{Result, Ok, Err}
 use Rattle.std.specs.List.{concat}
 use Rattle.fd_certfile.specs.fd_outside.Answers.{Answer}
 use Rattle.fd_report.specs.dss_model.Names.{bytes}
@@ -89,7 +90,8 @@ events_in (ends events f) = events
 -- all of a step's events are handed over, or a front
 abbrev pub EndsSo : {T : Type 0} → Style → Bool → Step T → ℕ → Made → Type 0
 EndsSo style begun (goes events s) code m = IsFrontOf (behind style begun events) code m
-EndsSo style begun (ends events f) code m = IsDone true (record { calls = behind style begun events ++ writes (fault_text f) ∷ []; end = Some f }) code m
+EndsSo style begun (ends events f) code m =
+    IsDone true (record { calls = behind style begun events ++ writes (fault_text f) ∷ []; end = Some f }) code m
 
 -- The step ends the run, or the run is cut short in it: behind some of its events, or at its end.
 pub record EndsAt {T S : Type 0} (style : Style) (is_step : Step T → Type 0)
@@ -114,5 +116,7 @@ pub record Finishes {L S : Type 0} (style : Style) (tells : Bool) (is_history : 
   pub fails : Option ℕ
   pub cause : HasReadCause (answers lib_old) (answers lib_new) fails
   pub made : Made
-  pub done : IsDone tells (failing fails (record { calls = last_calls style begun history.events history.end; end = history.end })) code made
+  pub done : IsDone tells
+      (failing fails
+      (record { calls = last_calls style begun history.events history.end; end = history.end })) code made
   pub sees : Sees answers taken calls lib_old lib_new old new made

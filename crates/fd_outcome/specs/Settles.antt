@@ -20,11 +20,19 @@ pub record Round : Type 0 where
 
 -- a certified state, and the acts behind it
 abbrev pub round_of : Claim → List Act → Round
-round_of m acts = record { centre = m.centre; radii = m.radii; boxes = m.boxes; mismatches = m.mismatches; inverse = m.inverse; acts = acts }
+round_of m acts = record {
+  centre = m.centre;
+  radii = m.radii;
+  boxes = m.boxes;
+  mismatches = m.mismatches;
+  inverse = m.inverse;
+  acts = acts;
+}
 
 -- the certificate of a round
 abbrev pub claim_in : Round → Claim
-claim_in r = record { centre = r.centre; radii = r.radii; mismatches = r.mismatches; boxes = r.boxes; inverse = r.inverse }
+claim_in r =
+    record { centre = r.centre; radii = r.radii; mismatches = r.mismatches; boxes = r.boxes; inverse = r.inverse }
 
 pub data SettleEnd : Type 0 where
   settled : SettleEnd
@@ -32,9 +40,9 @@ pub data SettleEnd : Type 0 where
   -- the last state has no certificate: what would have been claimed of it, with radii 0, and the fault
   without_certificate : Round → Fault → SettleEnd
 
--- of a circuit, by the number of its Solve in the run, from 1; the hour is 0 in a snapshot. It begins with this machine:
--- the positions of taps and banks, the last opening time of each bank, and where the time goes on with the hours what the
--- hour before left of the queue and of latest moves. It leaves the positions
+-- of a circuit, by the number of its Solve in the run, from 1; the hour is 0 in a snapshot. It begins with this
+-- machine: the positions of taps and banks, the last opening time of each bank, and where the time goes on with the
+-- hours what the hour before left of the queue and of latest moves. It leaves the positions
 pub record Settle : Type 0 where
   pub number : ℕ
   pub hour : ℕ

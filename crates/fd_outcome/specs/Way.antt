@@ -11,7 +11,8 @@ use Rattle.fd_outcome.specs.Done.{Made, Sees}
 abbrev pub whole : List Call → Made
 whole calls = record { calls = calls; torn = None }
 
-module _ {T : Type 0} (is_step : Command → T → Step T → Type 0) (last_name : T → Option (List ℕ)) (is_last : T → Option (List ℕ) → History → Type 0)
+module _ {T : Type 0} (is_step : Command → T → Step T → Type 0) (last_name : T → Option (List ℕ))
+    (is_last : T → Option (List ℕ) → History → Type 0)
     (held : List ℕ → Option (List ℕ))
     {L S : Type 0} (answers : L → List Answer) (taken : S → List ℕ) (calls : S → ℕ) (style : Style) where
   -- These events lead from the first point to where the run stands: whatever follows here, it is the history of the

@@ -1,5 +1,6 @@
 -- The blocks of an hour's rounds.
-use Rattle.std.proofs.Common.{◌≡◌, ◌∙◌, ◌+◌, ◌<◌, ◌++◌, ℕ, List, [], ◌∷◌, map, length, get_or, Option, Some, None, refl, sym, ap, subst, arith}
+use Rattle.std.proofs.Common.{◌≡◌, ◌∙◌, ◌+◌, ◌<◌, ◌++◌, ℕ, List, [], ◌∷◌, map, length, get_or, Option, Some, None, refl}
+use Rattle.std.proofs.Common.{sym, ap, subst, arith}
 use Rattle.std.proofs.lemmas.List.{append_assoc, append-nil}
 use Rattle.std.specs.Prelude.{All}
 use Rattle.std.specs.List.{flat_map}
@@ -17,7 +18,8 @@ use Rattle.fd_outcome.specs.fd_settle.declared.round.Round.{Round as Made}
 use Rattle.fd_outcome.specs.fd_cert.Claims.{claim_in}
 use Rattle.fd_outcome.specs.fd_cert.declared.ball.Certified.{Certified}
 use Rattle.fd_outcome.specs.fd_report.declared.faults.Fault.{Fault}
-use Rattle.fd_outcome.specs.Certificates.{act_in, block_in, block_texts, blocks_from, blocks_texts, certificate_texts, claimed_rounds}
+use Rattle.fd_outcome.specs.Certificates.{act_in, block_in, block_texts, blocks_from, blocks_texts, certificate_texts}
+use Rattle.fd_outcome.specs.Certificates.{claimed_rounds}
 use Rattle.fd_outcome.specs.Events.{row}
 use Rattle.fd_outcome.specs.Pages.{report_texts}
 use Rattle.fd_outcome.specs.Settles.{Round, Settle, round_of}
@@ -48,7 +50,8 @@ same_acts (a ∷ acts) = ap (λ (l : List block.Act). act_of a ∷ l) (same_acts
 -- the block that is written for a round is the round's
 pub same_block : (c : CircuitView) (number hour size place : ℕ) (s : Settle) (made : Made) → IsSettleAt c number hour s
     → size ≡ size_of (layout_of c.elements) → block_of size number hour place made ≡ block_in s place (round_in made)
-same_block c number hour size place s made is same = rw (same, is.circuit_is, is.number_is, is.hour_is, same_acts made.acts.items) refl
+same_block c number hour size place s made is same =
+    rw (same, is.circuit_is, is.number_is, is.hour_is, same_acts made.acts.items) refl
 
 pub claim_at : (n : ℕ) (rs : List Made) (k : ℕ) (r : Made) → All (IsRoundOf n) rs → k < length rs → r ≡ get_or rs k r
     → IsRoundOf n r
@@ -70,7 +73,8 @@ texts_more (x ∷ blocks) b =
     ∙ sym (append_assoc (block_texts x) (blocks_texts blocks) (block_texts b))
 
 pub failed_blocks : (s : Settle) (rounds : List Round) (f : Fault) (tried : Option Certified)
-    → blocks_texts (blocks_from s 0 (claimed_rounds rounds (end_with f tried))) ≡ blocks_texts (blocks_from s 0 rounds) ++ last_texts s (length rounds) tried
+    → blocks_texts (blocks_from s 0 (claimed_rounds rounds (end_with f tried)))
+    ≡ blocks_texts (blocks_from s 0 rounds) ++ last_texts s (length rounds) tried
 failed_blocks s rounds f None = sym (append-nil (blocks_texts (blocks_from s 0 rounds)))
 failed_blocks s rounds f (Some tried) =
     let r = round_of (claim_in tried) [] in

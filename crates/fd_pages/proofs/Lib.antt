@@ -1,4 +1,4 @@
 mod Recorded
 mod Blocks
-mod Waiting
+mod Rounds
 pub mod CallerLemmas

@@ -1,11 +1,13 @@
 -- The records of a settle, of its parts.
-use Rattle.std.proofs.Common.{◌≡◌, ◌∙◌, ◌<◌, ◌≤◌, ◌+◌, ◌++◌, ℕ, zero, suc, Bool, true, false, cond, List, [], ◌∷◌, map, filter, length, take, drop, slice_get, get_or, Option, Some, None, refl, sym, ap, subst}
+use Rattle.std.proofs.Common.{◌≡◌, ◌∙◌, ◌<◌, ◌≤◌, ◌+◌, ◌++◌, ℕ, zero, suc, Bool, true, false, cond, List, [], ◌∷◌, map}
+use Rattle.std.proofs.Common.{filter, length, take, drop, slice_get, get_or, Option, Some, None, refl, sym, ap, subst}
 use Rattle.std.specs.List.{flat_map, zip}
 use Rattle.std.specs.Option.{option_map}
 use Rattle.std.specs.Prelude.{All, IsSome, if◌then◌else◌}
 use Rattle.std.proofs.lemmas.List.{append_assoc, append-nil, drop_all, get_or-map, length-map, map-append, take_all}
 use Rattle.std.proofs.lemmas.List.Elements.{filter_more}
-use Rattle.std.proofs.lemmas.Option.{get_or_from_slice_get, same_Some, slice_get-get_or, slice_get-map, slice_get_within}
+use Rattle.std.proofs.lemmas.Option.{get_or_from_slice_get, same_Some, slice_get-get_or, slice_get-map}
+use Rattle.std.proofs.lemmas.Option.{slice_get_within}
 use Rattle.fd_bases.specs.dss_model.declared.element.Element.{Element}
 use Rattle.fd_bases.specs.dss_model.declared.names.ElementName.{ElementName}
 use Rattle.fd_bases.specs.dss_layout.Layout.{Elements}
@@ -53,12 +55,15 @@ places_next es k e ps qs made here more =
 pub places_end : (es : Elements) (k : ℕ) (ps : List ℕ)
     → map (slice_get es) ps ≡ map Some (filter (λ (x : ElementName × Element). is_control x.1) (take k es))
     → length es ≤ k → AreControlPlaces es ps
-places_end es k ps made past = made ∙ ap (λ (l : Elements). map Some (filter (λ (x : ElementName × Element). is_control x.1) l)) (take_all k es past)
+places_end es k ps made past =
+    made ∙ ap (λ (l : Elements). map Some (filter (λ (x : ElementName × Element). is_control x.1) l))
+    (take_all k es past)
 
 -- the control of a number, by its place
 control_by : (es : Elements) (ps : List ℕ) (k : ℕ) → AreControlPlaces es ps
     → option_map Some (slice_get (controls_of es) k) ≡ option_map (slice_get es) (slice_get ps k)
-control_by es ps k are = sym (slice_get-map Some (controls_of es) k) ∙ ap (λ l. slice_get l k) (sym are) ∙ slice_get-map (slice_get es) ps k
+control_by es ps k are =
+    sym (slice_get-map Some (controls_of es) k) ∙ ap (λ l. slice_get l k) (sym are) ∙ slice_get-map (slice_get es) ps k
 
 by_some : {A : Type 0} (o p : Option A) → option_map Some o ≡ Some p → o ≡ p
 by_some None p e = absurd (cc)
@@ -70,11 +75,14 @@ by_none (Some x) e = absurd (cc)
 
 pub control_at : (es : Elements) (ps : List ℕ) (k place : ℕ) → AreControlPlaces es ps → slice_get ps k ≡ Some place
     → slice_get (controls_of es) k ≡ slice_get es place
-control_at es ps k place are at = by_some (slice_get (controls_of es) k) (slice_get es place) (control_by es ps k are ∙ ap (option_map (slice_get es)) at)
+control_at es ps k place are at =
+    by_some (slice_get (controls_of es) k) (slice_get es place)
+    (control_by es ps k are ∙ ap (option_map (slice_get es)) at)
 
 pub no_control : (es : Elements) (ps : List ℕ) (k : ℕ) → AreControlPlaces es ps → slice_get ps k ≡ None
     → slice_get (controls_of es) k ≡ None
-no_control es ps k are at = by_none (slice_get (controls_of es) k) (control_by es ps k are ∙ ap (option_map (slice_get es)) at)
+no_control es ps k are at =
+    by_none (slice_get (controls_of es) k) (control_by es ps k are ∙ ap (option_map (slice_get es)) at)
 
 is_some_of : {A : Type 0} (o p : Option A) → option_map Some o ≡ Some p → IsSome p
 is_some_of None p e = absurd (cc)
@@ -114,23 +122,27 @@ abbrev taps_from : Positions → Elements → List Probe → List (List (List �
 taps_from at cs ps = flat_map (λ (c : (ElementName × Element) × Probe). tap_rows_by at c.0.0 c.1) (zip cs ps)
 
 taps_left : (at : Positions) (cs : Elements) (ps : List Probe) (k : ℕ) (p : Probe) → slice_get ps k ≡ Some p
-    → taps_from at (drop k cs) (drop k ps) ≡ tap_rows_of at (slice_get cs k) p ++ taps_from at (drop (suc k) cs) (drop (suc k) ps)
+    → taps_from at (drop k cs) (drop k ps) ≡ tap_rows_of at (slice_get cs k) p
+    ++ taps_from at (drop (suc k) cs) (drop (suc k) ps)
 taps_left at [] ps zero p here = refl
 taps_left at [] ps (suc k) p here = refl
 taps_left at (c ∷ cs) [] zero p here = absurd (cc)
 taps_left at (c ∷ cs) [] (suc k) p here = absurd (cc)
-taps_left at (c ∷ cs) (q ∷ ps) zero p here = ap (λ (x : Probe). tap_rows_by at c.0 x ++ taps_from at cs ps) (same_Some q p here)
+taps_left at (c ∷ cs) (q ∷ ps) zero p here =
+    ap (λ (x : Probe). tap_rows_by at c.0 x ++ taps_from at cs ps) (same_Some q p here)
 taps_left at (c ∷ cs) (q ∷ ps) (suc k) p here = taps_left at cs ps k p here
 
 -- behind a probe's
-pub taps_next : (at : Positions) (cs : Elements) (ps items : List Probe) (k m : ℕ) (d : Probe) (old mid new : List (List ℕ))
+pub taps_next : (at : Positions) (cs : Elements) (ps items : List Probe) (k m : ℕ) (d : Probe)
+    (old mid new : List (List ℕ))
     → items ≡ ps → k < length items → m ≡ suc k
     → mid ++ lines_of (taps_from at (drop k cs) (drop k ps)) ≡ old
     → new ≡ mid ++ lines_of (tap_rows_of at (slice_get cs k) (get_or items k d))
     → new ++ lines_of (taps_from at (drop m cs) (drop m ps)) ≡ old
 taps_next at cs ps items k m d old mid new same within next made more =
     let p : Probe = get_or items k d in
-    let here : slice_get ps k ≡ Some p = ap (λ (l : List Probe). slice_get l k) (sym same) ∙ slice_get-get_or items k d within in
+    let here : slice_get ps k ≡ Some p =
+    ap (λ (l : List Probe). slice_get l k) (sym same) ∙ slice_get-get_or items k d within in
     subst (λ (j : ℕ). new ++ lines_of (taps_from at (drop j cs) (drop j ps)) ≡ old) (sym next)
     (rows_left old mid new (tap_rows_of at (slice_get cs k) p) (taps_from at (drop (suc k) cs) (drop (suc k) ps))
     (ap (λ l. mid ++ lines_of l) (sym (taps_left at cs ps k p here)) ∙ made) more)
@@ -153,7 +165,8 @@ no_states [] = refl
 no_states (b ∷ banks) = refl
 
 -- behind a bank's record
-pub bank_next : (e : ElementName × Element) (es all_left : Elements) (closed left : List Bool) (old mid new : List (List ℕ))
+pub bank_next : (e : ElementName × Element) (es all_left : Elements) (closed left : List Bool)
+    (old mid new : List (List ℕ))
     → is_bank e.1 ≡ true → all_left ≡ e ∷ es → left ≡ drop 1 closed
     → mid ++ lines_of (bank_rows_by (banks_of all_left) closed) ≡ old
     → new ≡ mid ++ lines_of (bank_rows_first e.0 closed) → new ++ lines_of (bank_rows_by (banks_of es) left) ≡ old
@@ -165,7 +178,9 @@ bank_next e es all_left closed left old mid new bank first behind made more =
   where
     all : (cs ls : List Bool) → ls ≡ drop 1 cs
         → bank_rows_by (banks_of (e ∷ es)) cs ≡ bank_rows_first e.0 cs ++ bank_rows_by (banks_of es) ls
-    all [] ls is = ap (λ (bs : Elements). bank_rows_by bs []) (banks_first e es bank) ∙ sym (no_states (banks_of es)) ∙ ap (bank_rows_by (banks_of es)) (sym is)
+    all [] ls is =
+        ap (λ (bs : Elements). bank_rows_by bs []) (banks_first e es bank) ∙ sym (no_states (banks_of es))
+        ∙ ap (bank_rows_by (banks_of es)) (sym is)
     all (b ∷ cs) ls is =
         ap (λ (bs : Elements). bank_rows_by bs (b ∷ cs)) (banks_first e es bank)
         ∙ ap (λ (l : List Bool). bank_fields e.0 b ∷ bank_rows_by (banks_of es) l) (sym is)

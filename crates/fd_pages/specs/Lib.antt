@@ -1,7 +1,6 @@
 pub mod Hours
 pub mod Places
 pub mod Bases
-pub mod Pending
 pub mod Lines
 pub use Rattle.fd_outcome.specs.fd_outside as fd_outside
 pub use Rattle.fd_outcome.specs.fd_decimal as fd_decimal

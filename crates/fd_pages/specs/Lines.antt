@@ -1,12 +1,14 @@
 -- Lines of text alone: of settles and bases nothing is printed.
 use Rattle.std.specs.Prelude.{ℕ, List, [], ◌∷◌, ◌++◌}
 use Rattle.fd_outcome.specs.Calls.{Style}
-use Rattle.fd_outcome.specs.Events.{Event, asked, line, name_in, row, settle}
+use Rattle.fd_outcome.specs.Events.{Event, asked, line, name_in, row, settle, swept, waits}
 
 -- a line of text is printed, and nothing else
 abbrev pub line_texts : Event → List (List ℕ)
 line_texts (asked name) = []
 line_texts (settle s) = []
+line_texts (waits c es) = []
+line_texts (swept c m ladder) = []
 line_texts (row fields) = []
 line_texts (line text) = (text ++ 10 ∷ []) ∷ []
 

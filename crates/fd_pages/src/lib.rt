@@ -5,8 +5,7 @@
 //! what stands last. Nothing is written here.
 //!
 //! Specs: `Hours`: the settle of an hour, as the code made it, and what of it can be printed; `Bases`: voltage bases
-//! as events; `Pending`: what still waits behind the last hour of a Solve;
-//! `Lines`: the style of lines of text alone; `Places`: where controls stand among a circuit's elements.
+//! as events; `Lines`: the style of lines of text alone; `Places`: where controls stand among a circuit's elements.
 //!
 //! - `page`: a way to print settles
 //! - `controls`: the controls of a circuit

@@ -3,16 +3,17 @@ ghost use Rattle.std.specs.Prelude.{◌≡◌, ◌+◌, ℕ, List, [], IfOk};
 ghost use Rattle.std.specs.List.{flat_map};
 ghost use Rattle.fd_outcome.specs.fd_outside.Emitted.{pieces_of};
 ghost use Rattle.fd_outcome.specs.fd_network.Built.{IsBuiltOf};
+ghost use Rattle.fd_outcome.specs.fd_queue.declared.entry.Entry.{Entry as EntryView};
 ghost use Rattle.fd_outcome.specs.fd_report.declared.faults.Fault.{Fault as FaultView};
 ghost use Rattle.fd_outcome.specs.fd_sample.Circuits.{probes_of};
 ghost use Rattle.fd_outcome.specs.fd_sample.Probes.{positions_in};
 ghost use Rattle.fd_outcome.specs.Behind.{AsksNames};
 ghost use Rattle.fd_outcome.specs.Calls.{Style};
-ghost use Rattle.fd_outcome.specs.Events.{row, settle};
+ghost use Rattle.fd_outcome.specs.Events.{row, settle, waits};
 ghost use Rattle.fd_outcome.specs.Settles.{Settle, failed, settled};
 ghost use Rattle.fd_pages.specs.Hours.{IsPrintable, IsTriedOf, settle_made, end_with, Kept};
 ghost use Rattle.fd_pages.specs.Bases.{base_events};
-ghost use Rattle.fd_pages.specs.Pending.{pending_events};
+ghost use Rattle.fd_bases.specs.dss_circuit.Circuit.{CircuitView};
 ghost use Rattle.fd_bases.specs.dss_layout.Layout.{layout_of, size_of};
 
 use fd_bases::Circuit;
@@ -44,12 +45,13 @@ pub trait Page {
     fn closing(alloc: Global) -> Result<Vec<Record>, AllocError>
         ensures { IfOk result (λ r. pieces_of r.items ≡ style.closing) };
 
-    /// A law: the names of events are asked, and a settle asks for none; a settle of no round that ended with a fault has
-    /// no text. Does nothing.
+    /// A law: the names of events are asked, and a settle, a row and what waits ask for none; a settle of no round that
+    /// ended with a fault has no text. Does nothing.
     fn law()
         ensures names { AsksNames style }
         ensures silent { (s : Settle) → style.asked_in (settle s) ≡ [] }
         ensures silent_rows { (fields : List (List ℕ)) → style.asked_in (row fields) ≡ [] }
+        ensures silent_waits { (c : CircuitView) (es : List EntryView) → style.asked_in (waits c es) ≡ [] }
         ensures unshown { (s : Settle) (f : FaultView) → s.rounds ≡ [] → s.end ≡ failed f →
             style.texts_in (settle s) ≡ [] };
 
@@ -63,7 +65,7 @@ pub trait Page {
         circuit: &Circuit,
         entries: &[Entry],
     ) -> Result<Vec<Record>, AllocError>
-        ensures { IfOk result (λ r. pieces_of r.items ≡ flat_map style.texts_in (pending_events circuit.now entries.now)) };
+        ensures { IfOk result (λ r. pieces_of r.items ≡ style.texts_in (waits circuit.now entries.now)) };
 
     /// The texts of an hour's settle that ended well, at these positions.
     fn settled(

@@ -3,8 +3,8 @@ ghost use Rattle.std.specs.Prelude.{◌≡◌, ◌++◌, IfOk, OnOk, Some, slice
 ghost use Rattle.fd_bases.specs.dss_model.declared.element.Element.{Element};
 ghost use Rattle.fd_outcome.specs.fd_outside.Emitted.{pieces_of};
 ghost use Rattle.fd_outcome.specs.fd_report.Lines.{IsReady, lines_of};
-ghost use Rattle.fd_outcome.specs.Pages.{controls_of};
-ghost use Rattle.fd_pages.specs.Pending.{pending_rows_by, pending_texts};
+ghost use Rattle.fd_outcome.specs.Events.{waits};
+ghost use Rattle.fd_outcome.specs.Pages.{controls_of, pending_rows_by, report_texts};
 ghost use Rattle.fd_pages.specs.Places.{AreControlPlaces};
 
 use crate::records::control_places;
@@ -60,7 +60,7 @@ pub(crate) fn pending_records(
     circuit: &Circuit,
     entries: &[Entry],
 ) -> Result<Vec<Record>, AllocError>
-    ensures { IfOk result (λ r. pieces_of r.items ≡ pending_texts circuit.now entries.now) }
+    ensures { IfOk result (λ r. pieces_of r.items ≡ report_texts (waits circuit.now entries.now)) }
 {
     let mut writer = RecordWriter::new(alloc);
     let mut records = Vec::new(alloc);

@@ -1,5 +1,7 @@
 -- The nodes of a line's bus have branch phases among the unknowns.
-use Rattle.std.proofs.Common.{◌≡◌, ℕ, ◌+◌, ◌*◌, ◌≤◌, ◌<◌, ◌==◌, ◌&&◌, nat_le, Bool, true, false, List, [], ◌∷◌, length, Option, Some, Result, Ok, Err, if◌then◌else◌, slice_get, slice_index, slice_index_or, refl, subst, arith}
+use Rattle.std.proofs.Common.{◌≡◌, ℕ, ◌+◌, ◌*◌, ◌≤◌, ◌<◌, ◌==◌, ◌&&◌, nat_le, Bool, true, false, List, [], ◌∷◌, length}
+use Rattle.std.proofs.Common.{Option, Some, Result, Ok, Err, if◌then◌else◌, slice_get, slice_index, slice_index_or}
+use Rattle.std.proofs.Common.{refl, subst, arith}
 use Rattle.std.proofs.lemmas.Bool.{eqb-true}
 use Rattle.std.proofs.lemmas.Option.{get_or_from_slice_get, slice_get_within}
 use Rattle.fd_fault.specs.dss_model.declared.bus.Bus.{Bus}
@@ -25,7 +27,8 @@ module _ (phases : ℕ) (second : Result (List ℕ) TerminalFault) where
   count_by (n ∷ ns) h = one (length (n ∷ ns) == phases) refl (nat_le phases 3) h
     where
       one : (b : Bool) → (length (n ∷ ns) == phases) ≡ b → (c : Bool)
-          → tested (at_two_buses (if b && c then Ok (n ∷ ns) else Err WrongCount) second) ≡ Ok tt → length (n ∷ ns) ≤ phases
+          → tested (at_two_buses (if b && c then Ok (n ∷ ns) else Err WrongCount) second) ≡ Ok tt
+          → length (n ∷ ns) ≤ phases
       one true e c h = let same : length (n ∷ ns) ≡ phases = eqb-true (length (n ∷ ns)) phases e in omega (arith, same)
       one false e c h = absurd (cc h)
 
@@ -52,13 +55,17 @@ module _ (c : CircuitView) (place : ℕ) (name : ElementName) (l : Line) (n : �
       own : slice_index (layout_of c.elements).branches_before place + l.phases ≤ length (layout_of c.elements).branches
       own =
           let all = sum_with_own branch_phases 0 c.elements place (name, the.Line l) within in
-          let here : slice_index (layout_of c.elements).branches_before place + l.phases ≤ 0 + length (layout_of c.elements).branches =
-          subst (λ (e : ElementName × Element). slice_index (layout_of c.elements).branches_before place + branch_phases e.1
+          let here : slice_index (layout_of c.elements).branches_before place + l.phases ≤ 0 + length
+          (layout_of c.elements).branches =
+          subst
+          (λ (e : ElementName × Element). slice_index (layout_of c.elements).branches_before place + branch_phases e.1
           ≤ 0 + length (layout_of c.elements).branches) is all in
           omega (arith, here)
 
       by : (b : Bool) → (l.phases == 0) ≡ b
-          → 2 * ((if b then 0 else length (layout_of c.elements).nodes + slice_index (layout_of c.elements).branches_before place) + n)
+          → 2 *
+          ((if b then 0 else length (layout_of c.elements).nodes + slice_index
+          (layout_of c.elements).branches_before place) + n)
           ≤ size_of (layout_of c.elements)
       by true e = let none : l.phases ≡ 0 = eqb-true l.phases 0 e in omega (arith, none, few)
       by false e = omega (arith, own, few)

@@ -1,5 +1,6 @@
 -- The history of a short circuit: there is exactly one.
-use Rattle.std.proofs.Common.{◌≡◌, ◌∙◌, ℕ, Bool, true, false, List, [], Option, Some, None, Result, Ok, Err, refl, sym, ap, subst}
+use Rattle.std.proofs.Common.{◌≡◌, ◌∙◌, ℕ, Bool, true, false, List, [], Option, Some, None, Result, Ok, Err, refl, sym}
+use Rattle.std.proofs.Common.{ap, subst}
 use Rattle.fd_fault.specs.dss_model.Names.{bytes, lower}
 use Rattle.fd_fault.specs.dss_model.declared.command.Blame.{Blame}
 use Rattle.fd_fault.specs.dss_model.declared.command.Command.{Command}
@@ -18,15 +19,16 @@ use Rattle.fd_solving.specs.fd_daily.Underway.{no_positions}
 use Rattle.fd_solving.specs.fd_outside.Files.{Files, held}
 use Rattle.fd_solving.specs.fd_report.declared.faults.Cause.TheVariants as cause
 use Rattle.fd_solving.specs.fd_report.declared.faults.Fault.TheVariants as fault
-use Rattle.fd_solving.specs.fd_outcome.Behind.{AsksNames}
 use Rattle.fd_solving.specs.fd_outcome.Events.{History, before, ended, finishes}
 use Rattle.fd_solving.specs.fd_outcome.Work.{AfterStep, ExactlyOne, Step, ends, goes}
 use Rattle.fd_solving.specs.Commands.{Applied, bases_left, left_of, nothing_left, refused_at, solve_left, tried}
 use Rattle.fd_solving.specs.Steps.{StandingView, standing}
-use Rattle.fd_solving.proofs.CallerLemmas.{one_solution, test_once, tests_answer}
+use Rattle.fd_solving.proofs.CallerLemmas.{one_with, test_once, tests_answer}
 use Rattle.fd_solving.proofs.CallerLemmas.fd_outcome.{exactly_one_history, exactly_this}
-use Rattle.fd_shorting.specs.Pages.{short_report}
-use Rattle.fd_shorting.specs.Shorting.{IsAsked, IsByCircuit, IsByTests, IsFaultHistory, IsPlaced, IsShorted, IsShortingStep, IsSolvedOnce, IsTakenOf, IsTestedOnce, IsWithin, ShortingView, at_master, no_shorting_name, shorting, snapshot, too_many}
+use Rattle.fd_shorting.specs.Pages.{its_phases}
+use Rattle.fd_shorting.specs.Shorting.{IsAsked, IsByCircuit, IsByTests, IsFaultHistory, IsPlaced, IsShorted}
+use Rattle.fd_shorting.specs.Shorting.{IsShortingStep, IsSolvedOnce, IsTakenOf, IsTestedOnce, IsWithin, ShortingView}
+use Rattle.fd_shorting.specs.Shorting.{at_master, no_shorting_name, shorting, snapshot, too_many}
 
 -- ---- a command
 
@@ -43,7 +45,9 @@ one_short_step command s = one_taken s (tried command s.circuit)
 pub taken_step : (command : Command) (s : ShortingView) (d : CircuitView) → applied command s.circuit ≡ Ok d
     → IsShortingStep command s (goes [] (record s { circuit = d }))
 taken_step command s d e =
-    subst (λ (r : Result CircuitView ModelFault). IsTakenOf s (left_of command.place command.verb r) (goes [] (record s { circuit = d })))
+    subst
+    (λ (r : Result CircuitView ModelFault). IsTakenOf s (left_of command.place command.verb r)
+    (goes [] (record s { circuit = d })))
     (sym e) (by command.verb)
   where
     by : (v : Verb) → IsTakenOf s (left_of command.place v (Ok d)) (goes [] (record s { circuit = d }))
@@ -57,10 +61,13 @@ taken_step command s d e =
 pub refused_step : (command : Command) (s : ShortingView) (why : ModelFault) → applied command s.circuit ≡ Err why
     → IsShortingStep command s (ends [] (fault.Script command.place (cause.Model why)))
 refused_step command s why e =
-    subst (λ (r : Result CircuitView ModelFault). IsTakenOf s (left_of command.place command.verb r) (ends [] (fault.Script command.place (cause.Model why))))
+    subst
+    (λ (r : Result CircuitView ModelFault). IsTakenOf s (left_of command.place command.verb r)
+    (ends [] (fault.Script command.place (cause.Model why))))
     (sym e) (by command.verb)
   where
-    by : (v : Verb) → IsTakenOf s (left_of command.place v (Err why)) (ends [] (fault.Script command.place (cause.Model why)))
+    by : (v : Verb)
+        → IsTakenOf s (left_of command.place v (Err why)) (ends [] (fault.Script command.place (cause.Model why)))
     by (verb.New kind name pairs) = refl
     by (verb.Edit kind name pairs) = refl
     by (verb.Set pairs) = refl
@@ -89,7 +96,7 @@ goes_only (ends events f) h is = is
 
 pub one_solved : (c : CircuitView) → ExactlyOne (IsSolvedOnce c)
 one_solved c =
-    let one = one_solution (standing c no_positions 0) in
+    let one = one_with its_phases (λ s. s) (standing c no_positions 0) in
     record {
       some = history_of one.some;
       is = record { step = one.some; right = one.is; goes_on = goes_there one.some };
@@ -134,10 +141,7 @@ module _ (s : ShortingView) where
 pub one_shorted : (s : ShortingView) (found : Option (List ℕ)) → ExactlyOne (IsShorted s found)
 one_shorted s found = one_by_circuit s (has_circuit s.circuit.elements)
 
--- ---- the style
-
-pub short_asks : AsksNames short_report
-short_asks = record { asks = λ n. refl; silent = λ n. refl }
+-- ---- the end
 
 -- no text is promised to tell an end without a fault
 pub short_tells : {P : Type 0} → false ≡ true → P
@@ -149,5 +153,6 @@ pub one_fault : (files : Files) (name master bus : List ℕ) (kind : Kind)
     → ExactlyOne (λ h. IsFaultHistory files (said_of files name) master bus kind h)
 one_fault files name master bus kind =
     let p = said_of files name in
-    exactly_one_history IsShortingStep no_shorting_name IsShorted one_short_step one_shorted (λ n. held files (bytes n)) p.said
+    exactly_one_history IsShortingStep no_shorting_name IsShorted one_short_step one_shorted
+    (λ n. held files (bytes n)) p.said
     (ended_by p.left) (shorting empty_circuit master (lower bus) kind)

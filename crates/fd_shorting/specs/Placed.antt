@@ -11,10 +11,10 @@ use Rattle.fd_solving.specs.fd_report.declared.faults.Cause.TheVariants as cause
 use Rattle.fd_solving.specs.fd_report.declared.faults.Fault.{Fault}
 use Rattle.fd_solving.specs.fd_report.declared.faults.Fault.TheVariants as fault
 use Rattle.fd_solving.specs.fd_outcome.Behind.{last_calls}
+use Rattle.fd_solving.specs.fd_outcome.Calls.{report}
 use Rattle.fd_solving.specs.fd_outcome.Events.{History, ended}
 use Rattle.fd_solving.specs.fd_outcome.Parts.{Printed}
 use Rattle.fd_solving.specs.Answered.{IsOfCommand}
-use Rattle.fd_shorting.specs.Pages.{short_report}
 use Rattle.fd_shorting.specs.Shorting.{IsByCircuit, IsSolvedOnce, ShortingView, too_many}
 
 -- ---- a command
@@ -51,13 +51,15 @@ IsUnplaced s circuit.NoMemory f = ⊥
 
 -- the circuit of the short circuit in snapshot is left to solve, or the run ends
 abbrev pub IsPlacedAs : ShortingView → Result CircuitView Fault → Type 0
-IsPlacedAs s (Ok c) = HasPassed c × ((h : History) → IsSolvedOnce c h → IsByCircuit s (has_circuit s.circuit.elements) h)
+IsPlacedAs s (Ok c) =
+    HasPassed c × ((h : History) → IsSolvedOnce c h → IsByCircuit s (has_circuit s.circuit.elements) h)
 IsPlacedAs s (Err f) = IsEndWith s f
 
 -- what solving a circuit once comes to is printed, all of it or a front
-pub record IsPrintedOnce {S : Type 0} (taken : S → List ℕ) (calls : S → ℕ) (old new : S) (begun : Bool) (c : CircuitView)
+pub record IsPrintedOnce {S : Type 0} (taken : S → List ℕ) (calls : S → ℕ) (old new : S) (begun : Bool)
+    (c : CircuitView)
     (code : ℕ) : Type 0 where
   pub history : History
   pub right : IsSolvedOnce c history
   pub prints : Printed taken calls old new false
-      (record { calls = last_calls short_report begun history.events history.end; end = history.end }) code
+      (record { calls = last_calls report begun history.events history.end; end = history.end }) code

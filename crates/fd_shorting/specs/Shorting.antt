@@ -1,5 +1,5 @@
--- What the command line `fault MASTER BUS KIND` comes to: a script is read to its end, its Solves setting options alone,
--- and behind the last command the short circuit is solved as one snapshot.
+-- What the command line `fault MASTER BUS KIND` comes to: a script is read to its end, its Solves setting options
+-- alone, and behind the last command the short circuit is solved as one snapshot.
 use Rattle.std.specs.Prelude.{◌≡◌, ℕ, Bool, true, false, List, [], Option, Some, None, Result, Ok, Err}
 use Rattle.fd_fault.specs.dss_model.Names.{bytes, lower}
 use Rattle.fd_fault.specs.dss_model.declared.command.Blame.{Blame}
@@ -22,8 +22,9 @@ use Rattle.fd_solving.specs.fd_outcome.Events.{History, ended, finishes}
 use Rattle.fd_solving.specs.fd_outcome.History.{IsHistory}
 use Rattle.fd_solving.specs.fd_outcome.Work.{AfterStep, Step, ends, goes}
 use Rattle.fd_solving.specs.Commands.{Applied, IsTested, bases_left, nothing_left, refused_at, solve_left, tried}
-use Rattle.fd_solving.specs.Solving.{IsSolutionStep}
+use Rattle.fd_solving.specs.Solving.{IsSolutionWith}
 use Rattle.fd_solving.specs.Steps.{StandingView, standing}
+use Rattle.fd_shorting.specs.Pages.{its_phases}
 
 -- between two commands: the circuit, and what was asked for
 pub record ShortingView : Type 0 where
@@ -60,10 +61,14 @@ at_master s = record { file = s.master; line = 0 }
 abbrev pub snapshot : CircuitView → CircuitView
 snapshot c = record c { options = record (c.options) { mode = mode.Snapshot } }
 
--- what the Solve of a circuit comes to that is the first of the run, at the script's positions
+-- what the Solve of a circuit comes to that is the first of the run, at the script's positions, with the phases of the
+-- fault behind it
+abbrev pub IsShortSolve : CircuitView → Step StandingView → Type 0
+IsShortSolve c step = IsSolutionWith its_phases (λ s. s) (standing c no_positions 0) step
+
 pub record IsSolvedOnce (c : CircuitView) (h : History) : Type 0 where
   pub step : Step StandingView
-  pub right : IsSolutionStep (standing c no_positions 0) step
+  pub right : IsShortSolve c step
   pub goes_on : AfterStep step (λ s more. more ≡ finishes []) h
 
 abbrev pub too_many : ShortingView → Fault
@@ -77,7 +82,8 @@ IsWithin s k (Some place) h = h ≡ ended [] (too_many s)
 -- are looked at with it
 abbrev pub IsPlaced : ShortingView → Option ℕ → History → Type 0
 IsPlaced s None h = h ≡ ended [] (too_many s)
-IsPlaced s (Some number) h = IsWithin s number (first_too_many (fault_elements s.circuit.elements s.bus s.kind number)) h
+IsPlaced s (Some number) h =
+    IsWithin s number (first_too_many (fault_elements s.circuit.elements s.bus s.kind number)) h
 
 -- a node that isn't there, by the scripted circuit
 abbrev pub IsAsked : ShortingView → Option ℕ → History → Type 0

@@ -1,5 +1,5 @@
 // The command line `fault MASTER BUS KIND`.
-ghost use Rattle.std.specs.Prelude.{◌≡◌, ◌+◌, ◌-◌, ◌≤◌, ◌<◌, ◌^◌, All, IfOk, OnErr, None, false, length};
+ghost use Rattle.std.specs.Prelude.{◌≡◌, ◌+◌, ◌-◌, ◌≤◌, ◌<◌, ◌^◌, IfOk, OnErr, None, false, length};
 ghost use Rattle.std.specs.Str.{chars};
 ghost use Rattle.fd_fault.specs.dss_model.Names.{lower};
 ghost use Rattle.fd_fault.specs.dss_circuit.Circuit.{empty_circuit};
@@ -8,25 +8,21 @@ ghost use Rattle.fd_fault.specs.dss_ready.Ready.{HasPassed};
 ghost use Rattle.fd_solving.specs.dss_script.Said.{said_of};
 ghost use Rattle.fd_solving.specs.fd_report.declared.faults.Cause.TheVariants.{Model};
 ghost use Rattle.fd_solving.specs.fd_report.declared.faults.Fault.TheVariants.{Script};
-ghost use Rattle.fd_solving.specs.fd_daily.Underway.{no_positions};
 ghost use Rattle.fd_solving.specs.fd_outside.Causes.{Rose};
-ghost use Rattle.fd_solving.specs.fd_sample.Probes.{positions_in};
-ghost use Rattle.fd_solving.specs.fd_xfmr.Leakage.{AreTaps};
 ghost use Rattle.fd_solving.specs.fd_outside.Answers.{AgreesSince};
 ghost use Rattle.fd_solving.specs.fd_outside.Files.{Files};
+ghost use Rattle.fd_solving.specs.fd_outcome.Calls.{report};
 ghost use Rattle.fd_solving.specs.fd_outcome.Runs.{Runs};
 ghost use Rattle.fd_solving.specs.fd_outcome.Untold.{Answers, IsUntold};
 ghost use Rattle.fd_solving.specs.Weights.{weight};
-ghost use Rattle.fd_shorting.specs.Pages.{short_report};
 ghost use Rattle.fd_shorting.specs.Placed.{IsFollowed, IsPlacedAs, IsPrintedOnce, IsTestedAs, IsUnplaced};
 ghost use Rattle.fd_shorting.specs.Shorting.{IsFaultHistory, IsShorted, IsShortingStep, at_master, no_shorting_name, shorting, snapshot};
 
 use crate::page::ShortReport;
 use fd_fault::{CircuitFault, Kind, ModelFault, NodeName, Place, ReadyFault, fault_circuit, ready};
 use fd_solving::{
-    BankStates, Cause, Circuit, Command, Compute, Fault, Library, Line, Mode, ModelError,
-    Positions, Session, Sink, Tally, Taps, Text, WANT_OF_MEMORY, apply, print_fault, run_script,
-    said_law, solve_hours,
+    Cause, Circuit, Command, Compute, Fault, Library, Line, Mode, ModelError, Session, Sink, Tally,
+    Text, WANT_OF_MEMORY, apply, no_positions, print_fault, run_script, said_law, solve_hours,
 };
 use std::alloc::{AllocError, Global};
 use std::marker::Model;
@@ -157,17 +153,6 @@ fn follow(
     }
 }
 
-// No positions of taps or banks: what stands before the first Solve.
-fn no_positions(alloc: Global) -> Positions
-    ensures none { positions_in result ≡ no_positions }
-    ensures taps { All AreTaps result.taps }
-{
-    Positions {
-        taps: Taps::new(Vec::new(alloc)),
-        closed: BankStates::new(Vec::new(alloc)),
-    }
-}
-
 // Solves the circuit once, at the script's positions, and prints its report.
 fn solve_once<S: Sink>(alloc: Global, circuit: &Circuit, begun: bool, out: &mut S) -> u8
     requires { HasPassed circuit.now }
@@ -208,7 +193,7 @@ impl Line for Shorting {
 
     ghost tells = { false };
 
-    ghost style = { short_report };
+    ghost style = { report };
 
     ghost weight = { λ s. weight s.circuit };
 
@@ -255,7 +240,7 @@ pub fn fault<L: Library, S: Sink>(
 ) -> u8
     ensures run { (files : Files) → AgreesSince files (L.answers lib.old) (L.answers lib.new) →
         Runs L.answers S.taken S.calls lib.old lib.new out.old out.new
-        (λ h. IsFaultHistory files (said_of files (chars master.now)) (chars master.now) (chars bus.now) kind h) short_report false result }
+        (λ h. IsFaultHistory files (said_of files (chars master.now)) (chars master.now) (chars bus.now) kind h) report false result }
     ensures untold { IsUntold L.answers L.holds S.faults S.taken S.calls lib.old lib.new out.old out.new result }
 {
     said_law();

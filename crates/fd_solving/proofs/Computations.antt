@@ -9,7 +9,8 @@ use Rattle.fd_daily.specs.fd_pattern.Views.{NetworkView}
 use Rattle.fd_daily.specs.fd_queue.Machine.{Act, Machine, Setup, Step, Quiet, AtLimit, Acts, step_of}
 use Rattle.fd_daily.specs.fd_queue.MachineLaws.{IsCounted}
 use Rattle.fd_daily.proofs.CallerLemmas.fd_settle.{round_counted}
-use Rattle.fd_daily.specs.fd_settle.Computed.{Ending, Follows, IsComputedFrom, ended, procedure, range, stopped, uncertified}
+use Rattle.fd_daily.specs.fd_settle.Computed.{Ending, Follows, IsComputedFrom, ended, procedure, range, stopped}
+use Rattle.fd_daily.specs.fd_settle.Computed.{uncertified}
 use Rattle.fd_daily.specs.fd_settle.Plant.{Plant}
 use Rattle.fd_daily.specs.fd_settle.Sampling.{Sampling, Decided, Unclear}
 use Rattle.fd_daily.specs.fd_settle.Settle.{Open, Outcome, Ends, Moves, outcome_after, outcome_of}
@@ -42,28 +43,34 @@ ended_by : (s : Setup) (m : Machine) (w : Sampling) → IsEndedBy (outcome_of s 
 ended_by s m (Decided ds) = ended_after (step_of s ds m)
 ended_by s m (Unclear k u) = tt
 
-told_behind : (o : Outcome) (acts : List Act) (rest : List (Claim × List Act)) (ending : Ending) (n : Machine) (P : Machine → Type 0)
+told_behind : (o : Outcome) (acts : List Act) (rest : List (Claim × List Act)) (ending : Ending) (n : Machine)
+    (P : Machine → Type 0)
     → IsEndedBy o → ((k : Machine) → P k → IsTold ending) → Follows o acts rest ending n P → IsTold ending
 told_behind (Ends end k) acts rest ending n P told go h = subst IsTold (sym h.1.1.0) told
 told_behind (Moves made k) acts rest ending n P told go h = go k h.1
 
-pub is_told : (limits : Limits) (p : Plant) (m : Machine) (rounds : List (Claim × List Act)) (ending : Ending) (n : Machine)
+pub is_told : (limits : Limits) (p : Plant) (m : Machine) (rounds : List (Claim × List Act)) (ending : Ending)
+    (n : Machine)
     → IsComputedFrom limits p m rounds ending n → IsTold ending
 is_told limits p m [] (ended end) n h = absurd h
 is_told limits p m [] (stopped (range blame)) n h = tt
 is_told limits p m [] (stopped (procedure f)) n h = told_of_procedure (p.network m.at) limits f h.0.1
 is_told limits p m [] (stopped (uncertified r)) n h = tt
 is_told limits p m (r ∷ rest) ending n h =
-    told_behind (outcome_of p.setup m (p.look m.at r.0)) r.1 rest ending n (λ k. IsComputedFrom limits p k rest ending n) (ended_by p.setup m (p.look m.at r.0))
+    told_behind (outcome_of p.setup m (p.look m.at r.0)) r.1 rest ending n
+    (λ k. IsComputedFrom limits p k rest ending n) (ended_by p.setup m (p.look m.at r.0))
     (λ k later. is_told limits p k rest ending n later) h.1.1
 
 -- ---- how many rounds there are
 
 module _ (limits : Limits) (p : Plant) where
-  few_behind : (m : Machine) (o : Outcome) (acts : List Act) (rest : List (Claim × List Act)) (ending : Ending) (n : Machine)
+  few_behind : (m : Machine) (o : Outcome) (acts : List Act) (rest : List (Claim × List Act)) (ending : Ending)
+      (n : Machine)
       → ((made : List Act) (k : Machine) → o ≡ Moves made k → IsCounted p.setup m k) → m.made ≤ p.setup.limit →
-      ((k : Machine) → k.made ≤ p.setup.limit → IsComputedFrom limits p k rest ending n → length rest + k.made ≤ p.setup.limit + 1) →
-      Follows o acts rest ending n (λ k. IsComputedFrom limits p k rest ending n) → length rest + (m.made + 1) ≤ p.setup.limit + 1
+      ((k : Machine) → k.made ≤ p.setup.limit → IsComputedFrom limits p k rest ending n
+      → length rest + k.made ≤ p.setup.limit + 1) →
+      Follows o acts rest ending n (λ k. IsComputedFrom limits p k rest ending n)
+      → length rest + (m.made + 1) ≤ p.setup.limit + 1
   few_behind m (Ends end k) acts rest ending n counted within go h = omega (arith, within, ap length h.1.0)
   few_behind m (Moves made k) acts rest ending n counted within go h =
       let count = counted made k refl in

@@ -1,5 +1,6 @@
 -- What a command's answer comes to for the loop.
-use Rattle.std.proofs.Common.{◌≡◌, ◌∙◌, ◌≤◌, ℕ, Bool, true, false, List, [], ◌∷◌, ◌++◌, map, length, Option, Some, None, Ok, Err, refl, sym, ap, subst, inl, inr, arith}
+use Rattle.std.proofs.Common.{◌≡◌, ◌∙◌, ◌≤◌, ℕ, Bool, true, false, List, [], ◌∷◌, ◌++◌, map, length, Option, Some, None}
+use Rattle.std.proofs.Common.{Ok, Err, refl, sym, ap, subst, inl, inr, arith}
 use Rattle.std.specs.Prelude.{◌||◌, ◌⊎◌, is_some}
 use Rattle.std.specs.List.{AllByRecursion, flat_map}
 use Rattle.std.proofs.lemmas.List.{append-nil, map-append}
@@ -21,7 +22,8 @@ use Rattle.fd_pages.specs.fd_outcome.Way.{whole}
 use Rattle.fd_pages.specs.fd_outcome.Behind.{behind, closes, has_text, opened_unless}
 use Rattle.fd_pages.specs.fd_outcome.Parts.{EndsAt, GoesOn, IsCutIn, Printed, Wrote, events_in, fault_doing}
 use Rattle.fd_pages.specs.fd_outcome.Untold.{CutsShort}
-use Rattle.fd_pages.proofs.CallerLemmas.fd_outcome.{cut_before, not_empty, nothing_behind, or_false, wrote_all, wrote_nothing}
+use Rattle.fd_pages.proofs.CallerLemmas.fd_outcome.{cut_before, not_empty, nothing_behind, or_false, wrote_all}
+use Rattle.fd_pages.proofs.CallerLemmas.fd_outcome.{wrote_nothing}
 use Rattle.fd_pages.specs.Bases.{base_events}
 use Rattle.fd_solving.specs.Answered.{IsAnswerOf, IsAnswered, IsOfCommand}
 use Rattle.fd_solving.specs.Commands.{Applied, IsStepOf, bases_left, nothing_left, refused_at, solve_left}
@@ -81,7 +83,8 @@ module _ {S : Type 0} (taken : S → List ℕ) (calls : S → ℕ) where
 
   pub cut_never : (n : ℕ) (old new : S) (all : List Call) (code : ℕ) → (1 ≡ n → ⊥) → (5 ≡ n → ⊥)
       → IsCutIn taken calls old new all code → code ≡ n → ⊥
-  cut_never n old new all code a b cut e = elim cut.front [ inl x ↦ a (sym x.status_is ∙ e) | inr x ↦ b (sym x.status_is ∙ e) ]
+  cut_never n old new all code a b cut e =
+      elim cut.front [ inl x ↦ a (sym x.status_is ∙ e) | inr x ↦ b (sym x.status_is ∙ e) ]
 
 -- ---- the answer to a command, for `solve`
 
@@ -91,7 +94,8 @@ of_command f g e h = subst IsOfCommand (sym e) h
 pub answer_of : (left : Applied) (c : CircuitView) (a : Answer) → IsAnswered left c a → (at : Positions) (n : ℕ)
     → IsAnswerOf at n left c a
 answer_of left c answer.Done h at n = subst (λ (l : Applied). IsStepOf at n l (changes (standing c at n))) (sym h) refl
-answer_of left c answer.Bases h at n = subst (λ (l : Applied). IsStepOf at n l (goes (base_events c) (standing c at n))) (sym h) refl
+answer_of left c answer.Bases h at n =
+    subst (λ (l : Applied). IsStepOf at n l (goes (base_events c) (standing c at n))) (sym h) refl
 answer_of left c answer.Solves h at n = (
   h.1,
   λ step is.
@@ -99,7 +103,8 @@ answer_of left c answer.Solves h at n = (
 )
 answer_of (nothing_left x) c (answer.Refuses f) h at n = absurd h
 answer_of (bases_left x) c (answer.Refuses f) h at n = absurd h
-answer_of (refused_at place x) c (answer.Refuses f) h at n = (ap (λ (g : Fault). ends [] g) h, of_command f (fault.Script place x) h tt)
+answer_of (refused_at place x) c (answer.Refuses f) h at n =
+    (ap (λ (g : Fault). ends [] g) h, of_command f (fault.Script place x) h tt)
 answer_of (solve_left x) c (answer.Refuses f) h at n = (
   record { answer = Err h.blame; right = h.right; step_is = ap (λ (g : Fault). ends [] g) h.fault_is },
   of_command f (fault.Script h.blame.place (cause.Model h.blame.cause)) h.fault_is tt,
@@ -107,7 +112,7 @@ answer_of (solve_left x) c (answer.Refuses f) h at n = (
 
 -- ---- the calls of events that ask for nothing
 
-silent_body : (style : Style) (events : List Event) → AllByRecursion (λ e. style.asked_in e ≡ []) events
+pub silent_body : (style : Style) (events : List Event) → AllByRecursion (λ e. style.asked_in e ≡ []) events
     → body style events ≡ map writes (flat_map style.texts_in events)
 silent_body style [] silent = refl
 silent_body style (e ∷ events) silent =
@@ -143,12 +148,6 @@ pub bases_silent : (style : Style) (bases : List BusBase)
 bases_silent style [] silent = tt
 bases_silent style (b ∷ bases) silent = (silent (base_fields b.bus b.kv), bases_silent style bases silent)
 
-pub rows_silent : (style : Style) (rows : List (List (List ℕ)))
-    → ((fields : List (List ℕ)) → style.asked_in (row fields) ≡ [])
-    → AllByRecursion (λ e. style.asked_in e ≡ []) (map row rows)
-rows_silent style [] silent = tt
-rows_silent style (r ∷ rows) silent = (silent r, rows_silent style rows silent)
-
 -- texts with what opens them
 pub opened_first : (first : List (List ℕ)) (texts : List (List ℕ)) → has_text (map writes texts) ≡ true
     → map writes (first ++ texts) ≡ opened first (map writes texts)
@@ -166,7 +165,8 @@ no_pieces [] e = refl
 no_pieces (text ∷ texts) e = cc e
 
 -- where there is what closes the texts, something is printed at the end
-not_opened : (begun : Bool) (first : List (List ℕ)) (c : Call) (l : List Call) → opened_unless begun first (c ∷ l) ≡ [] → ⊥
+not_opened : (begun : Bool) (first : List (List ℕ)) (c : Call) (l : List Call)
+    → opened_unless begun first (c ∷ l) ≡ [] → ⊥
 not_opened true first c l e = cc e
 not_opened false first (reads n) l e = cc e
 not_opened false first (writes text) l e = not_empty (map writes first) (writes text) l e
@@ -213,7 +213,8 @@ module _ {S : Type 0} (taken : S → List ℕ) (calls : S → ℕ) where
 
   pub wrote_as : (old new : S) (texts : List (List ℕ)) (all : List Call) → map writes texts ≡ all
       → Takes taken calls old new texts → Wrote taken calls old new (whole all)
-  wrote_as old new texts all same takes = subst (λ l. Wrote taken calls old new (whole l)) same (wrote_all taken calls old new texts takes)
+  wrote_as old new texts all same takes =
+      subst (λ l. Wrote taken calls old new (whole l)) same (wrote_all taken calls old new texts takes)
 
   pub cut_as : (old new : S) (a all : List Call) (code : ℕ) → a ≡ all → IsCutIn taken calls old new a code
       → IsCutIn taken calls old new all code
@@ -229,7 +230,8 @@ module _ {S : Type 0} (taken : S → List ℕ) (calls : S → ℕ) where
   pub printed_as : (tells : Bool) (old new : S) (a all : List Call) (end : Option Fault) (code : ℕ) → a ≡ all
       → Printed taken calls old new tells (record { calls = a; end = end }) code
       → Printed taken calls old new tells (record { calls = all; end = end }) code
-  printed_as tells old new a all end code same p = subst (λ l. Printed taken calls old new tells (record { calls = l; end = end }) code) same p
+  printed_as tells old new a all end code same p =
+      subst (λ l. Printed taken calls old new tells (record { calls = l; end = end }) code) same p
 
 -- ---- what a command does
 
@@ -240,7 +242,8 @@ module _ {T S : Type 0} (style : Style) (is_step : Step T → Type 0) (taken : S
   goes_silent now out begun is = record {
     events = [];
     right = is;
-    wrote = subst (λ l. Wrote taken calls out out (whole l)) (sym (nothing_behind style begun)) (wrote_nothing taken calls out);
+    wrote = subst (λ l. Wrote taken calls out out (whole l)) (sym (nothing_behind style begun))
+        (wrote_nothing taken calls out);
     begun_is = sym (or_false begun);
   }
 
@@ -252,7 +255,8 @@ module _ {T S : Type 0} (style : Style) (is_step : Step T → Type 0) (taken : S
   }
 
   -- the fault's record stands alone where nothing is printed before it
-  fault_behind : (f : Fault) (code : ℕ) (old new : S) (p : Printed taken calls old new true (fault_doing f) code) (before : List Call)
+  fault_behind : (f : Fault) (code : ℕ) (old new : S) (p : Printed taken calls old new true (fault_doing f) code)
+      (before : List Call)
       → before ≡ [] → IsDone true (record { calls = before ++ writes (fault_text f) ∷ []; end = Some f }) code p.made
   fault_behind f code old new p before none =
       subst (λ l. IsDone true (record { calls = l ++ writes (fault_text f) ∷ []; end = Some f }) code p.made)

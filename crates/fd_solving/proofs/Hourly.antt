@@ -1,5 +1,6 @@
 -- Where the loop over a Solve's hours stands, how it goes on and how it ends.
-use Rattle.std.proofs.Common.{◌≡◌, ◌∙◌, ℕ, Bool, true, false, List, [], ◌∷◌, ◌++◌, map, Option, Some, None, refl, sym, ap, subst, inl, inr}
+use Rattle.std.proofs.Common.{◌≡◌, ◌∙◌, ℕ, Bool, true, false, List, [], ◌∷◌, ◌++◌, map, Option, Some, None, refl, sym}
+use Rattle.std.proofs.Common.{ap, subst, inl, inr}
 use Rattle.std.specs.Prelude.{◌||◌}
 use Rattle.std.proofs.lemmas.List.{append_assoc, append-nil}
 use Rattle.std.proofs.lemmas.List.Sums.{fold-append}
@@ -19,19 +20,18 @@ use Rattle.fd_daily.specs.fd_settle.declared.round.Round.{Round as Made}
 use Rattle.fd_pages.specs.fd_outcome.Behind.{behind, has_text}
 use Rattle.fd_pages.specs.fd_outcome.Calls.{Call, Style, body, calls_in, fault_text, opened, reads, writes}
 use Rattle.fd_pages.specs.fd_outcome.Done.{IsDone, IsFrontOf}
-use Rattle.fd_pages.specs.fd_outcome.Events.{Event, row, settle}
+use Rattle.fd_pages.specs.fd_outcome.Events.{Event, settle, waits}
 use Rattle.fd_pages.specs.fd_outcome.Parts.{EndsAt, IsCutIn, Printed, Wrote, events_in, fault_doing}
 use Rattle.fd_pages.specs.fd_outcome.Settles.{Settle, SettleEnd, settled, failed, without_certificate}
 use Rattle.fd_pages.specs.fd_outcome.Way.{whole}
 use Rattle.fd_pages.specs.fd_outcome.Work.{Step, goes, ends}
-use Rattle.fd_pages.proofs.CallerLemmas.fd_outcome.{behind-append, front_then, made_after, nothing_behind, or_false, printed_then, text_behind, wrote_nothing, wrote_then}
+use Rattle.fd_pages.proofs.CallerLemmas.fd_outcome.{behind-append, front_then, made_after, nothing_behind, or_false}
+use Rattle.fd_pages.proofs.CallerLemmas.fd_outcome.{printed_then, text_behind, wrote_nothing, wrote_then}
 use Rattle.fd_solving.specs.Answered.{IsMadeHour, kept_in}
 use Rattle.fd_solving.specs.Tallies.{tallied, tally_of, GoesOnTallied}
 use Rattle.fd_solving.specs.Printing.{EndsInHour, IsPrintedHour, begun_behind, fault_of, settle_calls}
 use Rattle.fd_daily.specs.Underway.{blame_first, plant_at, start_from}
 use Rattle.fd_pages.specs.Hours.{Kept, hour_settle}
-use Rattle.fd_pages.specs.Pending.{pending_events, pending_rows}
-use Rattle.fd_pages.specs.fd_outcome.Pages.{controls_of}
 use Rattle.fd_daily.proofs.CallerLemmas.{begun_at}
 use Rattle.fd_solving.specs.Solving.{IsBehind, IsHour, IsHoursStep, IsSolutionStep, begun_by, kept_by, kept_first}
 use Rattle.fd_solving.specs.Steps.{StandingView, behind_events, standing}
@@ -68,18 +68,14 @@ behind_more : (style : Style) (begun b : Bool) (events : List Event) (x : Settle
     → behind style begun events ++ settle_calls style b x ≡ behind style begun (events ++ settle x ∷ [])
 behind_more style begun b events x is = behind_all style begun b events (settle x ∷ []) is
 
--- rows add no round
-rows_added : (t : Tally) (rows : List (List (List ℕ))) → tally_of t (map row rows) ≡ t
-rows_added t [] = refl
-rows_added t (r ∷ rows) = rows_added t rows
-
 -- nothing of a settle without a text
 no_calls : (style : Style) (b : Bool) (x : Settle) → style.asked_in (settle x) ≡ [] → style.texts_in (settle x) ≡ []
     → settle_calls style b x ≡ []
 no_calls style b x silent none = by b
   where
     no_body : body style (settle x ∷ []) ≡ []
-    no_body = append-nil (calls_in style (settle x)) ∙ ap (λ l. map reads l ++ map writes (style.texts_in (settle x))) silent ∙ ap (map writes) none
+    no_body = append-nil (calls_in style (settle x))
+        ∙ ap (λ l. map reads l ++ map writes (style.texts_in (settle x))) silent ∙ ap (map writes) none
 
     by : (t : Bool) → settle_calls style t x ≡ []
     by true = no_body
@@ -118,7 +114,8 @@ module _ (style : Style) (c : CircuitView) (first : List ℕ) (l : Kept) {S : Ty
   way_start = record {
     events = [];
     leads = λ step is. subst IsFirst (sym (behind_none step)) is;
-    wrote = subst (λ cs. Wrote taken calls old old (whole cs)) (sym (nothing_behind style begun)) (wrote_nothing taken calls old);
+    wrote = subst (λ cs. Wrote taken calls old old (whole cs)) (sym (nothing_behind style begun))
+        (wrote_nothing taken calls old);
     begun_is = sym (or_false begun);
     added = refl;
   }
@@ -176,8 +173,10 @@ module _ (style : Style) (c : CircuitView) (first : List ℕ) (l : Kept) {S : Ty
       wrote = subst (λ cs. Wrote taken calls old new (whole cs)) calls_more
           (wrote_then taken calls old now new (behind style begun way.events) (whole (settle_calls style b x))
           way.wrote wrote);
-      begun_is = now_begun ∙ ap (λ y. y || has_text (body style (settle x ∷ []))) way.begun_is ∙ text_behind style begun way.events (settle x ∷ []);
-      added = more_rounds ∙ ap (λ (y : Tally). tallied y (settle x)) way.added ∙ sym (fold-append tallied none_yet way.events (settle x ∷ []));
+      begun_is = now_begun ∙ ap (λ y. y || has_text (body style (settle x ∷ []))) way.begun_is
+          ∙ text_behind style begun way.events (settle x ∷ []);
+      added = more_rounds ∙ ap (λ (y : Tally). tallied y (settle x)) way.added
+          ∙ sym (fold-append tallied none_yet way.events (settle x ∷ []));
     }
 
     -- cut short within its texts
@@ -186,7 +185,8 @@ module _ (style : Style) (c : CircuitView) (first : List ℕ) (l : Kept) {S : Ty
     way_cut well new code cut =
         let rest = one_hours c left kept in
         let made = made_after (behind style begun way.events) cut.made in
-        let all = front_then taken calls old now new (behind style begun way.events) (settle_calls style b x) code way.wrote cut in
+        let all = front_then taken calls old now new (behind style begun way.events)
+        (settle_calls style b x) code way.wrote cut in
         record {
           step = behind_events more rest.some;
           right = leads_on well rest.some rest.is;
@@ -199,15 +199,24 @@ module _ (style : Style) (c : CircuitView) (first : List ℕ) (l : Kept) {S : Ty
         }
 
     way_failed : (f : Fault) → fault_of x.end ≡ Some f → (new : S) (code : ℕ)
-        → Printed taken calls now new true (record { calls = settle_calls style b x ++ writes (fault_text f) ∷ []; end = Some f }) code
+        → Printed taken calls now new true
+        (record { calls = settle_calls style b x ++ writes (fault_text f) ∷ []; end = Some f }) code
         → EndsAt style IsFirst taken calls old new begun code
     way_failed f ill new code printed =
         let last : List Call = writes (fault_text f) ∷ [] in
-        let all = printed_then taken calls true old now new (behind style begun way.events) (settle_calls style b x ++ last) (Some f) code way.wrote printed in
+        let all = printed_then taken calls true old now new (behind style begun way.events)
+        (settle_calls style b x ++ last) (Some f) code way.wrote printed in
         let step : Step StandingView = ends (settle x ∷ []) f in
         record {
           step = ends more f;
-          right = way.leads step (record { made = x; kept = kept; is = is; goes_on = behind_failed x x.end f (λ s. IsHoursStep c left kept s) ill });
+          right = way.leads step
+              (record {
+                made = x;
+                kept = kept;
+                is = is;
+                goes_on = behind_failed x x.end f
+                    (λ s. IsHoursStep c left kept s) ill;
+              });
           made = all.made;
           shown = more;
           hidden = [];
@@ -227,7 +236,8 @@ module _ (style : Style) (c : CircuitView) (first : List ℕ) (l : Kept) {S : Ty
     -- behind an hour that is printed
     pub way_printed : (kept : Kept) (new : S) (after : Bool) (u : Tally)
         → IsPrintedHour style taken calls now new b c hour k kept after t u → HourWay left kept new after u
-    way_printed kept new after u p = way_more hour left k now b t way p.made kept p.is p.well new after p.wrote p.begun_is u p.added
+    way_printed kept new after u p =
+        way_more hour left k now b t way p.made kept p.is p.well new after p.wrote p.begun_is u p.added
 
     -- the run ends in an hour
     pub way_ended : (new : S) (code : ℕ) → EndsInHour style taken calls now new b c hour k code
@@ -277,9 +287,10 @@ module _ (style : Style) (c : CircuitView) (first : List ℕ) (l : Kept) {S : Ty
       range_there hour left k now b t way silent unshown blame here new code printed
 
   -- all hours are done, and the entries that still wait are printed
-  module _ (left : List ℕ) (k : Kept) (now : S) (b : Bool) (t : Tally) (none : left ≡ []) (way : HourWay left k now b t) where
+  module _ (left : List ℕ) (k : Kept) (now : S) (b : Bool) (t : Tally) (none : left ≡ [])
+      (way : HourWay left k now b t) where
     abbrev waiting : List Event
-    waiting = pending_events c k.machine.queue
+    waiting = waits c k.machine.queue ∷ []
 
     abbrev all : List Event
     all = way.events ++ waiting
@@ -300,11 +311,12 @@ module _ (style : Style) (c : CircuitView) (first : List ℕ) (l : Kept) {S : Ty
         events = all;
         right = last_step;
         wrote = subst (λ cs. Wrote taken calls old new (whole cs)) all_calls
-            (wrote_then taken calls old now new (behind style begun way.events) (whole (behind style b waiting)) way.wrote wrote);
-        begun_is = now_begun ∙ ap (λ y. y || has_text (body style waiting)) way.begun_is ∙ text_behind style begun way.events waiting;
+            (wrote_then taken calls old now new (behind style begun way.events)
+            (whole (behind style b waiting)) way.wrote wrote);
+        begun_is = now_begun ∙ ap (λ y. y || has_text (body style waiting)) way.begun_is
+            ∙ text_behind style begun way.events waiting;
       };
       added = way.added
-          ∙ sym (rows_added (tally_of none_yet way.events) (pending_rows (controls_of c.elements) k.machine.queue))
           ∙ sym (fold-append tallied none_yet way.events waiting);
     }
 
@@ -313,7 +325,9 @@ module _ (style : Style) (c : CircuitView) (first : List ℕ) (l : Kept) {S : Ty
         → EndsAt style IsFirst taken calls old new begun code
     way_done_cut new code cut =
         let made = made_after (behind style begun way.events) cut.made in
-        let done = front_then taken calls old now new (behind style begun way.events) (behind style b waiting) code way.wrote cut in
+        let done =
+        front_then taken calls old now new (behind style begun way.events)
+        (behind style b waiting) code way.wrote cut in
         record {
           step = goes all (standing c k.machine.at k.settled);
           right = last_step;
@@ -345,7 +359,8 @@ pub solution_step : (c : CircuitView) (before : Positions) (n : ℕ) (m : Machin
     → IsHoursStep c (hours_left day) (kept_in m n) step → IsSolutionStep (standing c before n) step
 solution_step c before n m at day start machine left step h =
     let kept : kept_in m n ≡ kept_first (standing c before n) =
-    ap (λ (x : Machine). (let k : Kept = record { machine = x; settled = n } in k)) (machine ∙ ap (before_first c) start) in
+    ap (λ (x : Machine). (let k : Kept = record { machine = x; settled = n } in k))
+    (machine ∙ ap (before_first c) start) in
     first_step (standing c before n) step
     (subst (λ (hs : List ℕ). IsHoursStep c hs (kept_first (standing c before n)) step) left
     (subst (λ (l : Kept). IsHoursStep c (hours_left day) l step) kept h))

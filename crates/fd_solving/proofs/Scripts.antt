@@ -53,14 +53,16 @@ module _ {T : Type 0} (is_step : Command → T → Step T → Type 0) (last_name
       let P : List Said → ScriptEnd → T → Type 0 =
       λ l e s. Runs answers taken calls lib_old lib_new old new (λ h. IsHistoryOf l e s h) style tells code in
       let a : P (said_in script) (end_in script) first = subst (P (said_in script) (end_in script)) begins runs in
-      let b : P p.said (end_in script) first = subst (λ l. P l (end_in script) first) (ap said_in is ∙ law.said files file) a in
+      let b : P p.said (end_in script) first =
+      subst (λ l. P l (end_in script) first) (ap said_in is ∙ law.said files file) a in
       subst (λ e. P p.said e first) (ap end_in is ∙ law.end files file) b
 
   -- memory runs out before the script is read
   pub not_begun : ((c : Command) (s : T) → ExactlyOne (is_step c s))
       → ((s : T) (found : Option (List ℕ)) → ExactlyOne (is_last s found)) → AsksNames style
       → TellsEnd tells style is_last → (lib : L) (out : S)
-      → Runs answers taken calls lib lib out out (λ h. IsHistoryOf (said_of files file).said (ended_by (said_of files file).left) first h) style tells 1
+      → Runs answers taken calls lib lib out out
+      (λ h. IsHistoryOf (said_of files file).said (ended_by (said_of files file).left) first h) style tells 1
   not_begun one_step one_last fits told lib out =
       let p = said_of files file in
       ends_first is_step last_name is_last style tells (λ n. held files (bytes n)) answers taken calls

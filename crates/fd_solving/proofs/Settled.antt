@@ -1,5 +1,6 @@
 -- What a settle whose states are computed comes to: its step, and its rounds, which are printed.
-use Rattle.std.proofs.Common.{◌≡◌, ◌∙◌, ◌≤◌, ◌<◌, ◌+◌, ◌^◌, ℕ, List, [], ◌∷◌, map, length, Option, Some, None, Result, Ok, Err, ap, refl, sym, subst, arith}
+use Rattle.std.proofs.Common.{◌≡◌, ◌∙◌, ◌≤◌, ◌<◌, ◌+◌, ◌^◌, ℕ, List, [], ◌∷◌, map, length, Option, Some, None, Result}
+use Rattle.std.proofs.Common.{Ok, Err, ap, refl, sym, subst, arith}
 use Rattle.std.specs.Prelude.{All}
 use Rattle.std.proofs.lemmas.List.{length-map}
 use Rattle.std.proofs.lemmas.List.Elements.{All-cons, All-nil}
@@ -34,7 +35,8 @@ use Rattle.fd_pages.specs.fd_outcome.Settles.{Round, SettleEnd}
 use Rattle.fd_pages.specs.fd_outcome.Settles as outcome
 use Rattle.fd_pages.specs.Hours.{IsPrintable, IsTriedOf, round_in, rounds_in, settle_made, end_with, Kept, hour_settle}
 use Rattle.fd_solving.specs.Answered.{IsFailureOf, IsMadeHour, IsOfCommand}
-use Rattle.fd_solving.specs.Endings.{IsCounted, IsEnding, IsFailureAt, IsTriedAt, IsWithin, TellsOf, end_by, ending_by_solver, ending_of, tried_at}
+use Rattle.fd_solving.specs.Endings.{IsCounted, IsEnding, IsFailureAt, IsTriedAt, IsWithin, TellsOf, end_by}
+use Rattle.fd_solving.specs.Endings.{ending_by_solver, ending_of, tried_at}
 use Rattle.fd_solving.specs.declared.faults.Failure.{Failure}
 use Rattle.fd_daily.specs.fd_cert.declared.ball.Certified.{Certified}
 use Rattle.fd_pages.specs.fd_report.declared.faults.Fault.{Fault}
@@ -117,7 +119,8 @@ pub within : {V : Type 0} (limits : Limits) (c : CircuitView) (powers : List Loa
 within limits c powers v m rs (fault.Range blame) w l is h = tt
 within limits c powers v m rs (fault.Solver f) w l is h =
     let at = (settled (plant_of c powers) m rs).machine.at in
-    subst (λ n. IsPlaced n f) (network_size c powers at ∙ sym (ap size_of is)) (placed limits (network_at c powers at) f h.last)
+    subst (λ n. IsPlaced n f) (network_size c powers at ∙ sym (ap size_of is))
+    (placed limits (network_at c powers at) f h.last)
 within limits c powers v m rs (fault.Undecided control low high edge) w l is h = tt
 within limits c powers v m rs (fault.ControlLimit acts) w l is h = tt
 within limits c powers v m rs fault.NoMemory w l is h = tt
@@ -127,7 +130,8 @@ within limits c powers v m rs fault.NoMemory w l is h = tt
 pub record IsMade (c : CircuitView) (powers : List LoadPower) (m : Machine) (rs : List Made)
     (result : Result (Unit {0}) (SettleFault ComputeFault)) (k : Kept) : Type 0 where
   pub left_is : k.machine ≡ (settled (plant_of c powers) m rs).machine
-  pub ends : EndsAs (plant_of c powers) result (settled (plant_of c powers) m rs).end (settled (plant_of c powers) m rs).machine
+  pub ends : EndsAs (plant_of c powers) result (settled (plant_of c powers) m rs).end
+      (settled (plant_of c powers) m rs).machine
   pub computed : EndsSo result (λ ending.
       IsComputedFrom (limits_of c.options) (plant_of c powers) m (computed_in rs) ending
       (settled (plant_of c powers) m rs).machine)
@@ -184,8 +188,10 @@ module _ (c : CircuitView) (hour : ℕ) (l : Kept) (rs : List Made) (k : Kept) (
     computed = computed;
     end = end;
     end_is = is;
-    settle_is = ap (λ (x : List Round). hour_settle c hour (begun_by c hour l) x end k.machine.at) (sym (same_rounds rs))
-        ∙ ap (λ (m : Machine). hour_settle c hour (begun_by c hour l) (rounds_of (computed_in rs)) end m.at) made.left_is;
+    settle_is =
+        ap (λ (x : List Round). hour_settle c hour (begun_by c hour l) x end k.machine.at) (sym (same_rounds rs))
+        ∙ ap
+        (λ (m : Machine). hour_settle c hour (begun_by c hour l) (rounds_of (computed_in rs)) end m.at) made.left_is;
     kept = same_kept last made.left_is;
   }
 

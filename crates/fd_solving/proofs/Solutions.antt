@@ -1,5 +1,6 @@
 -- The certified state of a round is a solution of the circuit at the positions of its round.
-use Rattle.std.proofs.Common.{◌≡◌, ◌∙◌, ◌^◌, ◌+◌, ◌*◌, ◌<◌, ◌≤◌, ℕ, ℤ, nat_abs, List, length, ap, refl, sym, subst, arith}
+use Rattle.std.proofs.Common.{◌≡◌, ◌∙◌, ◌^◌, ◌+◌, ◌*◌, ◌<◌, ◌≤◌, ℕ, ℤ, nat_abs, List, length, ap, refl, sym, subst}
+use Rattle.std.proofs.Common.{arith}
 use Rattle.std.proofs.Math.Nat.{mul-le-mul_right, le_of_mul-le-mul_right}
 use Rattle.std.proofs.lemmas.Int.{ints, unsigned_abs-mul}
 use Rattle.std.proofs.lemmas.List.Elements.{All-get_or}
@@ -20,7 +21,8 @@ use Rattle.fd_pages.specs.dss_layout.Layout.{complex_count, layout_of, size_of}
 use Rattle.dss_commands.specs.dss_circuit.Circuit.{CircuitView}
 use Rattle.fd_daily.specs.fd_enclosure.Boxes.{IsInTrustBox, half_width, half_width_by}
 use Rattle.fd_daily.specs.fd_enclosure.Encloses.{EnclosureLaw, IsAlternative, IsEnclosure, IsWithinRadii, LinearLaw}
-use Rattle.fd_daily.specs.fd_enclosure.Sound.{Claim, claim_of, mismatch_at, mismatches_of, number_at, radii_of, radius_in}
+use Rattle.fd_daily.specs.fd_enclosure.Sound.{Claim, claim_of, mismatch_at, mismatches_of, number_at, radii_of}
+use Rattle.fd_daily.specs.fd_enclosure.Sound.{radius_in}
 use Rattle.fd_daily.specs.fd_enclosure.Ties.{BallLaw, IsTied, TieLaw}
 use Rattle.fd_daily.proofs.CallerLemmas.fd_enclosure.{claim_is}
 use Rattle.fd_daily.specs.fd_queue.Controls.{Positions}
@@ -34,7 +36,9 @@ use Rattle.fd_daily.specs.fd_settle.Start.{IsSoundAt}
 use Rattle.fd_pages.specs.fd_outcome.Pages.{solution_in}
 use Rattle.fd_daily.specs.fd_settings.Hours.{hour_powers}
 use Rattle.fd_solving.specs.Boxes.{IsInBox, box_at, box_by, kind_at}
-use Rattle.fd_solving.specs.Headline.{EnclosesAll, EnclosesAllSizes, EnclosesOthers, EnclosesSizes, HaveOneBall, HasItsBox, IsLinear, IsOtherState, IsSolution, MeetsRound, equation_count, equations_of, hour_network}
+use Rattle.fd_solving.specs.Headline.{EnclosesAll, EnclosesAllSizes, EnclosesOthers, EnclosesSizes, HaveOneBall}
+use Rattle.fd_solving.specs.Headline.{HasItsBox, IsLinear, IsOtherState, IsSolution, MeetsRound, equation_count}
+use Rattle.fd_solving.specs.Headline.{equations_of, hour_network}
 use Rattle.fd_pages.specs.fd_outcome.Settles.{round_of}
 use Rattle.fd_daily.specs.fd_queue.Machine.{Act}
 
@@ -76,7 +80,8 @@ box_by_kind Branch draw centre place = refl
 box_by_kind Magnitude draw centre place = refl
 
 module _ (c : CircuitView) (powers : List LoadPower) (at : Positions) (centre : List ℤ) where
-  pub same_box : (place : ℕ) → half_width (network_at c powers at) centre place ≡ box_at (layout_of c.elements) centre place
+  pub same_box : (place : ℕ)
+      → half_width (network_at c powers at) centre place ≡ box_at (layout_of c.elements) centre place
   unfolding network_at
   same_box place = box_by_kind (kind_at (layout_of c.elements) place) (network_at c powers at).stamp.draw centre place
 
@@ -89,7 +94,8 @@ module _ (c : CircuitView) (powers : List LoadPower) (at : Positions) (centre : 
 
 module _ (c : CircuitView) (hour : ℕ) (at : Positions) (m : Claim)
     (here : IsSoundAt c (hour_powers c.elements hour) at m) where
-  -- a state meets numbers in the equations of the circuit where it does in the rows of its network, and the other way round
+  -- a state meets numbers in the equations of the circuit where it does in the rows of its network, and the other way
+  -- round
   up : (e : ℕ → ℕ) (y : State) → 0 < y.over
       → Meets (residual_of (hour_network c hour at).stamp) e (hour_network c hour at).size y
       → Meets (equations_of c hour at) e (equation_count c hour at) y
@@ -117,22 +123,26 @@ module _ (c : CircuitView) (hour : ℕ) (at : Positions) (m : Claim)
     meets = down (number_at m.mismatches) y a.over a.meets;
   }
 
-  near : EnclosureLaw → (y : State) → IsOtherState c hour at m y → IsWithinRadii (hour_network c hour at) m.centre m.radii y
+  near : EnclosureLaw → (y : State) → IsOtherState c hour at m y
+      → IsWithinRadii (hour_network c hour at) m.centre m.radii y
   near law y a = (enclosed law).encloses y (alternative y a)
 
   pub meets_round : EnclosureLaw → MeetsRound c hour at m (whole_state m.centre)
   meets_round law = up (number_at m.mismatches) (whole_state m.centre) (omega arith) (enclosed law).meets
 
   pub others : EnclosureLaw → EnclosesOthers c hour at m
-  others law y a = record { over = a.over; within = λ i lt. near law y a i (subst (λ n. i < n) here.sound.centre.long lt) }
+  others law y a =
+      record { over = a.over; within = λ i lt. near law y a i (subst (λ n. i < n) here.sound.centre.long lt) }
 
   -- the sizes of the voltages and currents of a state within the radii
   sizes_within : (y : State) (k : ℕ) → IsWithinRadii (hour_network c hour at) m.centre m.radii y
       → k < complex_count (layout_of c.elements) → IsSizeBetween (solution_of m.centre m.radii m.boxes m.mismatches) y k
   sizes_within y k close h =
-      let inside : k < (hour_network c hour at).complexes = omega (arith, h, network_complexes c (hour_powers c.elements hour) at) in
+      let inside : k < (hour_network c hour at).complexes =
+      omega (arith, h, network_complexes c (hour_powers c.elements hour) at) in
       sizes (solution_of m.centre m.radii m.boxes m.mismatches) y k
-      (close (2 * k) (omega (arith, inside, here.network.unknowns))) (close (2 * k + 1) (omega (arith, inside, here.network.unknowns)))
+      (close (2 * k) (omega (arith, inside, here.network.unknowns)))
+      (close (2 * k + 1) (omega (arith, inside, here.network.unknowns)))
 
   pub sizes_of_others : EnclosureLaw → EnclosesSizes c hour at m
   sizes_of_others law y k other h = sizes_within y k (near law y other) h
@@ -154,10 +164,12 @@ module _ (c : CircuitView) (hour : ℕ) (at : Positions) (m : Claim)
 
   pub is_of_size : (acts : List Act) → IsOfSize (size_of (layout_of c.elements)) (solution_in (round_of m acts))
   is_of_size acts =
-      subst (λ n. IsOfSize n (solution_in (round_of m acts))) (network_size c (hour_powers c.elements hour) at) (record {
+      subst (λ n. IsOfSize n (solution_in (round_of m acts))) (network_size c (hour_powers c.elements hour) at)
+      (record {
         centre = here.sound.centre.long;
         radii = here.sound.radii_long;
-        boxes = ap length here.sound.boxes ∙ length-map-range_with_len (half_width (hour_network c hour at) m.centre) 0 (hour_network c hour at).size;
+        boxes = ap length here.sound.boxes
+            ∙ length-map-range_with_len (half_width (hour_network c hour at) m.centre) 0 (hour_network c hour at).size;
         mismatches = here.sound.mismatches_long;
         parts_small = λ i h.
             part_size (part m.centre i) (All-get_or IsPart m.centre i (pos 0)
@@ -178,7 +190,8 @@ module _ (c : CircuitView) (hour : ℕ) (at : Positions) (m : Claim)
         l 0 h (omega arith)
 
     own_radius : (i : ℕ) → i < (hour_network c hour at).size
-        → number_at m.radii i ≡ radius_in (hour_network c hour at) m.centre m.inverse (mismatches_of (hour_network c hour at) m.centre) i
+        → number_at m.radii i ≡ radius_in (hour_network c hour at) m.centre m.inverse
+        (mismatches_of (hour_network c hour at) m.centre) i
     unfolding radii_of
     own_radius i h =
         ap (λ k. number_at k.radii i) what
@@ -187,9 +200,11 @@ module _ (c : CircuitView) (hour : ℕ) (at : Positions) (m : Claim)
         0 (hour_network c hour at).size i i 0 h (omega arith)
 
     row_tied : TieLaw → (l : ℕ) → l < equation_count c hour at
-        → IsTied (equations_of c hour at (whole_state m.centre) l) (addend_count (hour_network c hour at).stamp l) (number_at m.mismatches l)
+        → IsTied (equations_of c hour at (whole_state m.centre) l) (addend_count (hour_network c hour at).stamp l)
+        (number_at m.mismatches l)
     row_tied tie l h =
-        let within : l < (hour_network c hour at).size = omega (arith, h, network_size c (hour_powers c.elements hour) at) in
+        let within : l < (hour_network c hour at).size =
+        omega (arith, h, network_size c (hour_powers c.elements hour) at) in
         let tied : IsTied (equations_of c hour at (whole_state m.centre) l)
         (addend_count (hour_network c hour at).stamp l) (mismatch_at (hour_network c hour at) m.centre l) =
         tied_same (here.agrees.same (whole_state m.centre) (omega arith) l)
@@ -199,10 +214,12 @@ module _ (c : CircuitView) (hour : ℕ) (at : Positions) (m : Claim)
         IsTied (equations_of c hour at (whole_state m.centre) l) (addend_count (hour_network c hour at).stamp l) e)
         (sym (own_mismatch l within)) tied
 
-    own_box : (i : ℕ) → i < (hour_network c hour at).size → number_at m.boxes i ≡ half_width (hour_network c hour at) m.centre i
+    own_box : (i : ℕ) → i < (hour_network c hour at).size
+        → number_at m.boxes i ≡ half_width (hour_network c hour at) m.centre i
     own_box i h =
         ap (λ boxes. number_at boxes i) here.sound.boxes
-        ∙ get_or-map-range_with_len (half_width (hour_network c hour at) m.centre) 0 (hour_network c hour at).size i i 0 h (omega arith)
+        ∙ get_or-map-range_with_len (half_width (hour_network c hour at) m.centre) 0
+        (hour_network c hour at).size i i 0 h (omega arith)
 
     its_box : HasItsBox c hour at m
     its_box place h =
@@ -211,7 +228,8 @@ module _ (c : CircuitView) (hour : ℕ) (at : Positions) (m : Claim)
 
     one_ball : BallLaw → HaveOneBall c hour at m
     one_ball ball k h =
-        let inside : k < (hour_network c hour at).complexes = omega (arith, h, network_complexes c (hour_powers c.elements hour) at) in
+        let inside : k < (hour_network c hour at).complexes =
+        omega (arith, h, network_complexes c (hour_powers c.elements hour) at) in
         let first : 2 * k < (hour_network c hour at).size = omega (arith, inside, here.network.unknowns) in
         let second : 2 * k + 1 < (hour_network c hour at).size = omega (arith, inside, here.network.unknowns) in
         let same = ball (hour_network c hour at) m.centre m.inverse (mismatches_of (hour_network c hour at) m.centre) k

@@ -1,6 +1,7 @@
 -- Every settle of a script is solved: what stands between two commands stays within limits, and so each Solve's settles
 -- are.
-use Rattle.std.proofs.Common.{◌≡◌, ℕ, ◌+◌, ◌*◌, ◌≤◌, List, [], ◌∷◌, map, Option, Result, Ok, Err, refl, sym, ap, subst, arith}
+use Rattle.std.proofs.Common.{◌≡◌, ℕ, ◌+◌, ◌*◌, ◌≤◌, List, [], ◌∷◌, map, Option, Result, Ok, Err, refl, sym, ap, subst}
+use Rattle.std.proofs.Common.{arith}
 use Rattle.std.specs.Prelude.{All}
 use Rattle.std.proofs.lemmas.List.Elements.{All-append, All-cons, All-nil}
 use Rattle.fd_pages.specs.fd_outside.Files.{held}
@@ -94,7 +95,8 @@ module _ (laws : Laws) where
       → s.circuit.solves ≤ d.solves → IsGood (standing d s.at s.settled)
   stays_good s d h circuit count = record { circuit = circuit; taps = h.taps; few = omega (arith, h.few, count) }
 
-  change_good : (s : StandingView) (rest : ℕ) (d : CircuitView) (events : List Event) (step : Step StandingView) → IsGood s
+  change_good : (s : StandingView) (rest : ℕ) (d : CircuitView) (events : List Event) (step : Step StandingView)
+      → IsGood s
       → IsWithinLimits d.elements d.options → s.circuit.solves ≤ d.solves → weight d + rest ≤ 1_048_578
       → AllSettles IsSolved events → step ≡ goes events (standing d s.at s.settled) → IsGoodStep rest step
   change_good s rest d events step h circuit count room solved is =
@@ -107,7 +109,8 @@ module _ (laws : Laws) where
       → weight d + rest ≤ 1_048_578 → IsStepOf s.at s.settled (left_of place v (Ok d)) step → IsGoodStep rest step
   left_good place (verb.Solve pairs) s rest d step h circuit count room is =
       let one_more : s.circuit.solves + 1 ≤ d.solves = count in
-      solve_good d s.at s.settled rest step circuit h.taps (omega (arith, h.few, one_more)) room is.answer is.right is.step_is
+      solve_good d s.at s.settled rest step circuit h.taps
+      (omega (arith, h.few, one_more)) room is.answer is.right is.step_is
   left_good place verb.Bases s rest d step h circuit count room is =
       change_good s rest d _ step h circuit (omega (arith, count)) room (bases_solved (bases_of d)) is
   left_good place (verb.New kind text pairs) s rest d step h circuit count room is =
@@ -137,25 +140,32 @@ module _ (laws : Laws) where
     abbrev IsHistoryFrom : List Said → ScriptEnd → StandingView → History → Type 0
     IsHistoryFrom said end s h = IsHistory IsStep no_name IsDoneThere held_as said end s h
 
-    end_solved : (end : ScriptEnd) (s : StandingView) (h : History) → IsHistoryFrom [] end s h → AllSettles IsSolved h.events
-    end_solved at_its_end s h is = subst (λ (x : History). AllSettles IsSolved x.events) (sym is) (All-nil (IfSettle IsSolved))
-    end_solved (refused_at place c) s h is = subst (λ (x : History). AllSettles IsSolved x.events) (sym is) (All-nil (IfSettle IsSolved))
+    end_solved : (end : ScriptEnd) (s : StandingView) (h : History) → IsHistoryFrom [] end s h
+        → AllSettles IsSolved h.events
+    end_solved at_its_end s h is =
+        subst (λ (x : History). AllSettles IsSolved x.events) (sym is) (All-nil (IfSettle IsSolved))
+    end_solved (refused_at place c) s h is =
+        subst (λ (x : History). AllSettles IsSolved x.events) (sym is) (All-nil (IfSettle IsSolved))
 
     after_step : (rest : ℕ) (step : Step StandingView) (P : StandingView → History → Type 0) (h : History)
         → IsGoodStep rest step → AfterStep step P h
-        → ((t : StandingView) (x : History) → IsGood t → weight t.circuit + rest ≤ 1_048_578 → P t x → AllSettles IsSolved x.events)
+        → ((t : StandingView) (x : History) → IsGood t → weight t.circuit + rest ≤ 1_048_578 → P t x
+        → AllSettles IsSolved x.events)
         → AllSettles IsSolved h.events
     after_step rest (goes events t) P h good is go =
         subst (λ (x : History). AllSettles IsSolved x.events) (sym is.h_is)
-        (All-append (IfSettle IsSolved) events is.more.events good.solved (go t is.more good.left.0 good.left.1 is.right))
-    after_step rest (ends events f) P h good is go = subst (λ (x : History). AllSettles IsSolved x.events) (sym is) good.solved
+        (All-append (IfSettle IsSolved) events is.more.events good.solved
+        (go t is.more good.left.0 good.left.1 is.right))
+    after_step rest (ends events f) P h good is go =
+        subst (λ (x : History). AllSettles IsSolved x.events) (sym is) good.solved
 
     history_solved : (said : List Said) (end : ScriptEnd) (s : StandingView) (h : History) → IsGood s
         → weight s.circuit + room_of said ≤ 1_048_578 → IsHistoryFrom said end s h → AllSettles IsSolved h.events
     history_solved [] end s h good room is = end_solved end s h is
     history_solved (name n ∷ more) end s h good room is =
         subst (λ (x : History). AllSettles IsSolved x.events) (sym is.h_is)
-        (All-cons (IfSettle IsSolved) (asked n) is.more.events tt (history_solved more end s is.more good room is.right))
+        (All-cons (IfSettle IsSolved) (asked n) is.more.events tt
+        (history_solved more end s is.more good room is.right))
     history_solved (command c ∷ more) end s h good room is =
         after_step (room_of more) is.step (λ t x. IsHistoryFrom more end t x) h
         (command_good c s (room_of more) is.step good room is.right) is.goes_on
@@ -170,4 +180,5 @@ pub all_solved : Laws → SaidRoomLaw → SolvedLaw
 all_solved laws law files script h is =
     let p = said_of files script in
     let few = law files script in
-    history_solved laws (λ n. held files (bytes n)) p.said (ended_by p.left) first_standing h first_good (omega (arith, few)) is
+    history_solved laws (λ n. held files (bytes n)) p.said (ended_by p.left) first_standing h first_good
+    (omega (arith, few)) is

@@ -1,5 +1,6 @@
 -- The settles of a Solve's hours are solved, and what an hour leaves can start the next.
-use Rattle.std.proofs.Common.{◌≡◌, ℕ, ◌+◌, ◌-◌, ◌^◌, ◌<◌, ◌≤◌, List, [], ◌∷◌, map, length, Option, None, refl, sym, ap, subst, arith}
+use Rattle.std.proofs.Common.{◌≡◌, ℕ, ◌+◌, ◌-◌, ◌^◌, ◌<◌, ◌≤◌, List, [], ◌∷◌, map, length, Option, None, refl, sym, ap}
+use Rattle.std.proofs.Common.{subst, arith}
 use Rattle.std.specs.Prelude.{All}
 use Rattle.std.specs.List.{AllByRecursion}
 use Rattle.std.proofs.lemmas.List.{length-map, length-replicate}
@@ -33,13 +34,12 @@ use Rattle.fd_daily.specs.Day.{before_first, no_openings, resumed}
 use Rattle.fd_daily.specs.Hours.{hours_of, time_of}
 use Rattle.fd_daily.specs.Underway.{plant_at, start_from}
 use Rattle.fd_daily.proofs.CallerLemmas.{all_hours, begun_made}
-use Rattle.fd_pages.specs.fd_outcome.Events.{AllSettles, IfSettle, row, settle}
-use Rattle.fd_pages.specs.fd_outcome.Pages.{controls_of}
+use Rattle.fd_pages.specs.fd_outcome.Events.{AllSettles, IfSettle, settle, waits}
 use Rattle.fd_pages.specs.fd_outcome.Parts.{events_in}
-use Rattle.fd_pages.specs.fd_outcome.Settles.{Round, Settle, SettleEnd, claim_in, failed, round_of, settled, without_certificate}
+use Rattle.fd_pages.specs.fd_outcome.Settles.{Round, Settle, SettleEnd, claim_in, failed, round_of, settled}
+use Rattle.fd_pages.specs.fd_outcome.Settles.{without_certificate}
 use Rattle.fd_pages.specs.fd_outcome.Work.{Step, ends, goes}
 use Rattle.fd_pages.specs.Hours.{Kept, hour_settle}
-use Rattle.fd_pages.specs.Pending.{pending_rows}
 use Rattle.fd_solving.specs.Headline.{DecidesAlike, HasModestNumbers, IsSolution, IsSolved, hour_network}
 use Rattle.fd_solving.specs.Solving.{IsBehind, IsHour, IsHoursStep, IsSolutionStep, begun_by, kept_first, rounds_of}
 use Rattle.fd_solving.specs.Steps.{StandingView, behind_events, standing}
@@ -105,7 +105,8 @@ module _ (laws : Laws) (c : CircuitView) (ready : HasPassed c) (circuit : IsWith
         positions = positions;
         agrees = of.agrees;
         network = of.network;
-        sound = laws.certificate v m.centre m.inverse m of.network there.point there.square.inverse computed.certificate;
+        sound = laws.certificate v m.centre m.inverse m of.network there.point there.square.inverse
+            computed.certificate;
       }
 
   -- what holds of each round, by what holds of it before and how it is computed
@@ -114,7 +115,8 @@ module _ (laws : Laws) (c : CircuitView) (ready : HasPassed c) (circuit : IsWith
       → IsComputed (limits_of c.options) (hour_network c hour at) m → Q at m) where
     behind_round : (o : Outcome) (acts : List Act) (rest : List (Claim × List Act)) (ending : Ending) (n : Machine)
         → Follows o acts rest ending n (λ k. Computed k rest ending n) → AtEach P plant (left_by o) (claims_in rest)
-        → ((k : Machine) → Computed k rest ending n → AtEach P plant k (claims_in rest) → AtEach Q plant k (claims_in rest))
+        → ((k : Machine) → Computed k rest ending n → AtEach P plant k (claims_in rest)
+        → AtEach Q plant k (claims_in rest))
         → AtEach Q plant (left_by o) (claims_in rest)
     behind_round (Moves made k) acts rest ending n f h go = go k f.1 h
     behind_round (Ends end k) acts rest ending n f h go =
@@ -146,13 +148,15 @@ module _ (laws : Laws) (c : CircuitView) (ready : HasPassed c) (circuit : IsWith
 
     sound : AtEach (IsSoundAt c powers) plant first claims
     sound =
-        each_round (λ at m. ArePositions c powers at) (IsSoundAt c powers) (λ at m h none computed. sound_at at m h none computed)
+        each_round (λ at m. ArePositions c powers at) (IsSoundAt c powers)
+        (λ at m h none computed. sound_at at m h none computed)
         first is.rounds is.ending is.machine is.computed kept_here.positions
 
     solutions : AtEach (IsSolution c hour) plant first claims
     solutions =
         each_round (IsSoundAt c powers) (IsSolution c hour)
-        (λ at m h none computed. is_solution c hour at m h computed laws.enclosure laws.linear laws.tie laws.ball) first is.rounds is.ending
+        (λ at m h none computed. is_solution c hour at m h computed laws.enclosure laws.linear laws.tie laws.ball)
+        first is.rounds is.ending
         is.machine is.computed sound
 
     few : length (rounds_of is.rounds) < 2 ^ 32
@@ -167,13 +171,21 @@ module _ (laws : Laws) (c : CircuitView) (ready : HasPassed c) (circuit : IsWith
     made = hour_settle c hour (begun_by c hour l) (rounds_of is.rounds) is.end is.machine.at
 
     modest : HasModestNumbers made
-    modest = record { number = number; hour = omega (arith, within); few = few; acts = numbers_same is.rounds kept_here.acts }
+    modest = record {
+      number = number;
+      hour = omega
+          (arith, within);
+      few = few;
+      acts = numbers_same is.rounds kept_here.acts;
+    }
 
     made_solved : IsSolved made
     made_solved = record {
-      solutions = subst (λ (ys : List Claim). AtEach (IsSolution c hour) plant first ys) (sym (claims_same is.rounds)) solutions;
+      solutions = subst (λ (ys : List Claim). AtEach (IsSolution c hour) plant first ys)
+          (sym (claims_same is.rounds)) solutions;
       alike = subst (λ (ys : List Claim). AtEach (DecidesAlike c hour) plant first ys) (sym (claims_same is.rounds))
-          (each_alike c hour ready circuit.elements_in_range circuit.well_formed.entries laws.enclosure first claims sound);
+          (each_alike c hour ready circuit.elements_in_range circuit.well_formed.entries laws.enclosure first claims
+          sound);
       numbers = modest;
     }
 
@@ -198,11 +210,6 @@ another law c others m hour within h =
       taps = h.positions.taps;
     }) (omega (arith, within))
 
--- rows are no settles
-rows_solved : (rows : List (List (List ℕ))) → AllSettles IsSolved (map row rows)
-rows_solved [] = All-nil (IfSettle IsSolved)
-rows_solved (r ∷ rows) = All-cons (IfSettle IsSolved) (row r) (map row rows) tt (rows_solved rows)
-
 -- what a Solve leaves where the run goes on
 abbrev pub LeavesTaps : CircuitView → ℕ → Step StandingView → Type 0
 LeavesTaps c most (goes events t) = (t.circuit ≡ c) × (All AreTaps t.at.taps × (t.settled ≤ most))
@@ -213,15 +220,19 @@ pub record IsSolvedStep (c : CircuitView) (most : ℕ) (step : Step StandingView
   pub solved : AllSettles IsSolved (events_in step)
   pub left : LeavesTaps c most step
 
-settle_before : (c : CircuitView) (most : ℕ) (x : Settle) (more : Step StandingView) → IsSolved x → IsSolvedStep c most more
+settle_before : (c : CircuitView) (most : ℕ) (x : Settle) (more : Step StandingView) → IsSolved x
+    → IsSolvedStep c most more
     → IsSolvedStep c most (behind_events (settle x ∷ []) more)
-settle_before c most x (goes events t) good h = record { solved = All-cons (IfSettle IsSolved) (settle x) events good h.solved; left = h.left }
-settle_before c most x (ends events f) good h = record { solved = All-cons (IfSettle IsSolved) (settle x) events good h.solved; left = tt }
+settle_before c most x (goes events t) good h =
+    record { solved = All-cons (IfSettle IsSolved) (settle x) events good h.solved; left = h.left }
+settle_before c most x (ends events f) good h =
+    record { solved = All-cons (IfSettle IsSolved) (settle x) events good h.solved; left = tt }
 
 settle_last : (c : CircuitView) (most : ℕ) (x : Settle) (step : Step StandingView) → IsSolved x
     → (events_in step ≡ settle x ∷ []) → LeavesTaps c most step → IsSolvedStep c most step
 settle_last c most x step good is left = record {
-  solved = subst (AllSettles IsSolved) (sym is) (All-cons (IfSettle IsSolved) (settle x) [] good (All-nil (IfSettle IsSolved)));
+  solved = subst (AllSettles IsSolved) (sym is)
+      (All-cons (IfSettle IsSolved) (settle x) [] good (All-nil (IfSettle IsSolved)));
   left = left;
 }
 
@@ -242,14 +253,19 @@ module _ (laws : Laws) (c : CircuitView) (ready : HasPassed c) (circuit : IsWith
       → IsSolvedStep c (l.settled + length hours) step
   hours_solved others [] l step within room h is =
       subst (IsSolvedStep c (l.settled + 0)) (sym is)
-      (record { solved = rows_solved (pending_rows (controls_of c.elements) l.machine.queue); left = (refl, (h.positions.taps, omega arith)) })
+      (record {
+        solved = All-cons (IfSettle IsSolved) (waits c l.machine.queue) [] tt
+            (All-nil (IfSettle IsSolved));
+        left = (refl, (h.positions.taps, omega arith));
+      })
   hours_solved others (hour ∷ hours) l step within room h is =
       let start = another laws.hours c others l.machine hour within.0 h in
       let good = settle_solved laws c ready circuit hour l start (omega (arith, room)) within.0 is.made is.kept is.is in
       let left = leaves laws c ready circuit hour l start (omega (arith, room)) within.0 is.made is.kept is.is in
       let count : is.kept.settled ≡ l.settled + 1 = ap (λ (q : Kept). q.settled) is.is.kept in
       let same : is.kept.settled + length hours ≡ l.settled + length (hour ∷ hours) = omega (arith, count) in
-      behind_settle c (l.settled + length (hour ∷ hours)) is.made is.made.end (λ s. IsHoursStep c hours is.kept s) step good
+      behind_settle c (l.settled + length (hour ∷ hours)) is.made is.made.end
+      (λ s. IsHoursStep c hours is.kept s) step good
       is.goes_on
       (λ more right.
       subst (λ n. IsSolvedStep c n more) same
@@ -279,8 +295,13 @@ module _ (laws : Laws) (c : CircuitView) (ready : HasPassed c) (circuit : IsWith
       let done =
       hours_solved (hour_powers c.elements 0) (hours_of c.options) (kept_first (standing c before n)) step hours.each
       (omega (arith, room, few)) (first_hour before taps) is in
-      record { solved = done.solved; left = most_left (n + length (hours_of c.options)) (n + 8761) step (omega (arith, few)) done.left }
+      record {
+        solved = done.solved;
+        left = most_left (n + length (hours_of c.options)) (n + 8761) step
+            (omega (arith, few)) done.left;
+      }
     where
-      most_left : (few most : ℕ) (step : Step StandingView) → few ≤ most → LeavesTaps c few step → LeavesTaps c most step
+      most_left : (few most : ℕ) (step : Step StandingView) → few ≤ most → LeavesTaps c few step
+          → LeavesTaps c most step
       most_left few most (goes events t) less h = (h.0, (h.1.0, omega (arith, less, h.1.1)))
       most_left few most (ends events f) less h = tt

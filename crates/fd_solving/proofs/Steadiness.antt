@@ -1,5 +1,6 @@
 -- What is decided over the ball of a round is what the controls want at each state that solves it.
-use Rattle.std.proofs.Common.{◌≡◌, ◌∙◌, ℕ, ◌+◌, ◌<◌, ◌≤◌, ◌^◌, List, [], ◌∷◌, map, length, get_or, Result, Ok, Err, ap, refl, sym, subst, arith}
+use Rattle.std.proofs.Common.{◌≡◌, ◌∙◌, ℕ, ◌+◌, ◌<◌, ◌≤◌, ◌^◌, List, [], ◌∷◌, map, length, get_or, Result, Ok, Err, ap}
+use Rattle.std.proofs.Common.{refl, sym, subst, arith}
 use Rattle.std.specs.Prelude.{All}
 use Rattle.std.proofs.lemmas.List.Elements.{All-from_get_or, All-head, All-tail}
 use Rattle.dss_commands.specs.dss_model.declared.words.ControlMode.{ControlMode}
@@ -41,7 +42,8 @@ after_first d e (Decided fs) ds es first rest is =
 after_first d e (Unclear k u) ds es first rest is = absurd (cc)
 
 -- samples that are decided say what each control wants, where each sample does
-decided_each : (k : ℕ) (ps : List Probe) (f : Probe → Result Decision Undecided) (g : Probe → Decision) (ds : List Decision)
+decided_each : (k : ℕ) (ps : List Probe) (f : Probe → Result Decision Undecided) (g : Probe → Decision)
+    (ds : List Decision)
     → All (λ p. (d : Decision) → f p ≡ Ok d → g p ≡ d) ps → sampling_of k (map f ps) ≡ Decided ds → map g ps ≡ ds
 decided_each k [] f g ds each is = cc
 decided_each k (p ∷ ps) f g ds each is =
@@ -54,7 +56,8 @@ decided_each k (p ∷ ps) f g ds each is =
 
     cases : ((fs : List Decision) → sampling_of (k + 1) (map f ps) ≡ Decided fs → map g ps ≡ fs)
         → (r : Result Decision Undecided) → f p ≡ r → sampling_of k (r ∷ map f ps) ≡ Decided ds → g p ∷ map g ps ≡ ds
-    cases later (Ok d) e h = after_first d (g p) (sampling_of (k + 1) (map f ps)) ds (map g ps) (sym (All-head W p ps each d e)) later h
+    cases later (Ok d) e h =
+        after_first d (g p) (sampling_of (k + 1) (map f ps)) ds (map g ps) (sym (All-head W p ps each d e)) later h
     cases later (Err u) e h = absurd (cc)
 
 part_taken : (mode : ControlMode) (P : Probe → Type 0) (ps : List Probe) → All P ps → All P (taking_part mode ps)
@@ -73,17 +76,21 @@ module _ (c : CircuitView) (hour : ℕ) where
   ball_of at m here = record {
     long = here.sound.radii_long ∙ sym here.sound.centre.long;
     centre = here.sound.centre.parts;
-    radii = All-from_get_or (λ n. n ≤ 2 ^ 40) m.radii 0 (λ i h. here.sound.radii_most i (subst (λ n. i < n) here.sound.radii_long h));
+    radii = All-from_get_or (λ n. n ≤ 2 ^ 40) m.radii 0
+        (λ i h. here.sound.radii_most i (subst (λ n. i < n) here.sound.radii_long h));
   }
 
   module _ (ready : HasPassed c) (range : AllInRange c.elements) (keys : All IsEntry c.elements)
       (law : EnclosureLaw) where
     -- a decided sample over a round's ball is what its control wants at each state that solves the round
     wanted : (at : Positions) (m : Claim) (x : State) → IsHeld at m x
-        → All (λ p. (d : Decision) → sample_over p at m.centre m.radii ≡ Ok d → decision_at p at (quantity_at p at x) ≡ d) (probes_of c.elements)
+        → All
+        (λ p. (d : Decision) → sample_over p at m.centre m.radii ≡ Ok d
+        → decision_at p at (quantity_at p at x) ≡ d) (probes_of c.elements)
     wanted at m x h i p lt d is =
         let kept = probes_kept c ready range keys in
-        let long : length m.centre ≡ size_of (layout_of c.elements) = h.1.sound.centre.long ∙ network_size c (hour_powers c.elements hour) at in
+        let long : length m.centre ≡ size_of (layout_of c.elements) =
+        h.1.sound.centre.long ∙ network_size c (hour_powers c.elements hour) at in
         let q = get_or (probes_of c.elements) i p in
         sample_wanted q at m.centre m.radii x d (subst (λ n. IsProbe n q) (sym long) (kept.places i p lt))
         (kept.devices at h.1.positions.counts.taps h.1.positions.counts.closed i p lt) h.1.positions.taps
@@ -105,4 +112,5 @@ module _ (c : CircuitView) (hour : ℕ) where
         → AtEach (IsSoundAt c (hour_powers c.elements hour)) (plant_of c (hour_powers c.elements hour)) m ys
         → AtEach (DecidesAlike c hour) (plant_of c (hour_powers c.elements hour)) m ys
     each_alike m [] sound = tt
-    each_alike m (y ∷ ys) sound = (alike m.at y sound.0, each_alike (after_round (plant_of c (hour_powers c.elements hour)) m y) ys sound.1)
+    each_alike m (y ∷ ys) sound =
+        (alike m.at y sound.0, each_alike (after_round (plant_of c (hour_powers c.elements hour)) m y) ys sound.1)

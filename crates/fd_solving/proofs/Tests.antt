@@ -1,5 +1,6 @@
 -- A command comes to exactly one thing, as the tests of Solve have exactly one answer.
-use Rattle.std.proofs.Common.{◌≡◌, ◌<◌, ◌+◌, ◌∙◌, ℕ, zero, suc, Bool, true, false, List, [], ◌∷◌, take, length, Option, Some, None, Result, Ok, Err, refl, sym, ap, subst, inl, inr, nat_abs, arith}
+use Rattle.std.proofs.Common.{◌≡◌, ◌<◌, ◌+◌, ◌∙◌, ℕ, zero, suc, Bool, true, false, List, [], ◌∷◌, take, length, Option}
+use Rattle.std.proofs.Common.{Some, None, Result, Ok, Err, refl, sym, ap, subst, inl, inr, nat_abs, arith}
 use Rattle.std.specs.Prelude.{slice_get, option_map, get_or, All}
 use Rattle.std.proofs.lemmas.Bool.{cases_order}
 use Rattle.std.proofs.lemmas.Option.{slice_get_within, slice_get-get_or, get_or_from_slice_get}
@@ -15,7 +16,8 @@ use Rattle.fd_pages.specs.dss_layout.Layout.{first_too_many, nodes_of}
 use Rattle.fd_pages.specs.dss_layout.Terminals.{mentions}
 use Rattle.fd_daily.specs.dss_ready.Feeding.{Fed, IsFed, IsIsolated, IsFirstIsolated, FirstIsolated}
 use Rattle.fd_daily.specs.dss_ready.Labels.{labels_of, mentions_apart}
-use Rattle.fd_daily.specs.dss_ready.Ready.{HasPassed, IsToBlame, for_own, for_many, for_isolated, blame_at, blame_on, own_blame}
+use Rattle.fd_daily.specs.dss_ready.Ready.{HasPassed, IsToBlame, for_own, for_many, for_isolated, blame_at, blame_on}
+use Rattle.fd_daily.specs.dss_ready.Ready.{own_blame}
 use Rattle.fd_daily.proofs.CallerLemmas.dss_ready.{fed_up_to, first_isolated_at, too_many_within}
 use Rattle.dss_commands.specs.dss_circuit.Circuit.{CircuitView, Elements}
 use Rattle.fd_daily.specs.fd_enclosure.Sound.{loose, uncertain}
@@ -24,22 +26,24 @@ use Rattle.fd_daily.specs.fd_queue.Controls.{Positions}
 use Rattle.fd_daily.specs.fd_queue.Machine.{Machine}
 use Rattle.fd_pages.specs.fd_report.declared.faults.Cause.TheVariants as cause
 use Rattle.fd_pages.specs.fd_report.declared.faults.Fault.TheVariants as run
-use Rattle.fd_daily.specs.fd_settle.Computed.{Computation, Ending, HasOneComputation, ended, procedure, range, stopped, uncertified}
+use Rattle.fd_daily.specs.fd_settle.Computed.{Computation, Ending, HasOneComputation, ended, procedure, range, stopped}
+use Rattle.fd_daily.specs.fd_settle.Computed.{uncertified}
 use Rattle.fd_daily.specs.fd_settle.Contract.{limits_of}
 use Rattle.fd_daily.proofs.CallerLemmas.fd_settle.{has_one_computation}
 use Rattle.fd_daily.specs.fd_settle.Settle.{Open, Settled, Limited, Undecidable}
 use Rattle.fd_daily.specs.Hours.{hours_of}
-use Rattle.fd_pages.specs.fd_outcome.Events.{settle}
+use Rattle.fd_pages.specs.fd_outcome.Events.{settle, waits}
 use Rattle.fd_pages.specs.fd_outcome.Settles.{Settle, SettleEnd, settled, failed, without_certificate}
 use Rattle.fd_pages.specs.fd_outcome.Work.{Step, ExactlyOne, goes, ends}
 use Rattle.fd_pages.proofs.CallerLemmas.fd_outcome.{exactly_this}
 use Rattle.fd_pages.specs.Bases.{base_events}
-use Rattle.fd_solving.specs.Commands.{Applied, bases_left, nothing_left, solve_left, refused_at, IsByTests, IsStep, IsStepOf, IsTested, tried}
+use Rattle.fd_solving.specs.Commands.{Applied, bases_left, nothing_left, solve_left, refused_at, IsByTests, IsStep}
+use Rattle.fd_solving.specs.Commands.{IsStepOf, IsTested, tried}
 use Rattle.fd_daily.specs.Underway.{plant_at}
 use Rattle.fd_pages.specs.Hours.{Kept, hour_settle}
 use Rattle.fd_daily.proofs.CallerLemmas.{begun_made}
-use Rattle.fd_pages.specs.Pending.{pending_events}
-use Rattle.fd_solving.specs.Solving.{IsBehind, IsEndBy, IsHour, IsHourStep, IsHoursStep, IsSolutionStep, begun_by, kept_by, kept_first, rounds_of, tried_round, undecided_at, unknown_of}
+use Rattle.fd_solving.specs.Solving.{IsBehind, IsEndBy, IsHour, IsHourStep, IsHoursStep, IsSolutionStep, begun_by}
+use Rattle.fd_solving.specs.Solving.{kept_by, kept_first, rounds_of, tried_round, undecided_at, unknown_of}
 use Rattle.fd_solving.specs.Steps.{StandingView, behind_events, changes, refuses, standing}
 use Rattle.fd_solving.proofs.Computations.{IsTold, is_told}
 
@@ -57,7 +61,8 @@ all_before P xs i k x all is lt =
     subst P (get_or-take k xs i x lt ∙ get_or_from_slice_get xs i x x is) (all i x within)
 
 not_fed : (elements : Elements) (e : ElementName × Element) → IsFed elements e → IsIsolated elements e → ⊥
-not_fed elements e fed isolated = isolated.is_not_fed (All-contains (Fed elements) (mentions e.1) isolated.node fed isolated.is_mentioned)
+not_fed elements e fed isolated =
+    isolated.is_not_fed (All-contains (Fed elements) (mentions e.1) isolated.node fed isolated.is_mentioned)
 
 none_isolated : (elements : Elements) (place : ℕ) → FirstIsolated elements None → IsFirstIsolated elements place → ⊥
 none_isolated elements place fed first =
@@ -65,7 +70,8 @@ none_isolated elements place fed first =
     first.is_isolated
 
 isolated_later : (elements : Elements) (i k : ℕ) → IsFirstIsolated elements i → IsFirstIsolated elements k → i < k → ⊥
-isolated_later elements i k a b lt = not_fed elements a.element (all_before (IsFed elements) elements i k a.element b.before a.at_place lt) a.is_isolated
+isolated_later elements i k a b lt =
+    not_fed elements a.element (all_before (IsFed elements) elements i k a.element b.before a.at_place lt) a.is_isolated
 
 isolated_once : (elements : Elements) (i k : ℕ) → IsFirstIsolated elements i → IsFirstIsolated elements k → i ≡ k
 isolated_once elements i k a b = elim (cases_order i k) [
@@ -91,7 +97,8 @@ module _ (circuit : CircuitView) where
   blame_once a b (for_own x h) (for_many y p k m e) = absurd (own_and_none (own_blame circuit) tt x k h)
   blame_once a b (for_own x h) (for_isolated y p k n i e) = absurd (own_and_none (own_blame circuit) tt x k h)
   blame_once a b (for_many x p h m e) (for_own y k) = absurd (own_and_none (own_blame circuit) tt y h k)
-  blame_once a b (for_many x p h m e) (for_many y q k n g) = same_blame _ _ x y (ap (λ i. blame_at fault.TooMany circuit.elements i) (same_place p q _ m n)) e g
+  blame_once a b (for_many x p h m e) (for_many y q k n g) =
+      same_blame _ _ x y (ap (λ i. blame_at fault.TooMany circuit.elements i) (same_place p q _ m n)) e g
   blame_once a b (for_many x p h m e) (for_isolated y q k n i g) = let f : Some p ≡ None = sym m ∙ n in cc f
   blame_once a b (for_isolated x p h m i e) (for_own y k) = absurd (own_and_none (own_blame circuit) tt y h k)
   blame_once a b (for_isolated x p h m i e) (for_many y q k n g) = let f : Some q ≡ None = sym n ∙ m in cc f
@@ -134,7 +141,8 @@ module _ (elements : Elements) where
       → (All (IsFed elements) (take (k + 1) elements) → IsSearched elements) → IsSearched elements
   search_at k name e true here test fed go = record {
     place = Some k;
-    right = first_isolated_at elements k name e (nodes_of elements) (labels_of (nodes_of elements) elements) true here refl refl test refl fed;
+    right = first_isolated_at elements k name e (nodes_of elements)
+        (labels_of (nodes_of elements) elements) true here refl refl test refl fed;
   }
   search_at k name e false here test fed go =
       go (fed_up_to elements k name e (nodes_of elements) (labels_of (nodes_of elements) elements) false here refl
@@ -142,10 +150,12 @@ module _ (elements : Elements) where
 
   -- the search goes on with so many elements, where those before them are fed
   search_from : (n k : ℕ) → n + k ≡ length elements → All (IsFed elements) (take k elements) → IsSearched elements
-  search_from zero k h fed = record { place = None; right = subst (All (IsFed elements)) (take_all k elements (omega (arith, h))) fed }
+  search_from zero k h fed =
+      record { place = None; right = subst (All (IsFed elements)) (take_all k elements (omega (arith, h))) fed }
   search_from (suc n) k h fed =
       let here = element_at elements k (omega (arith, h)) in
-      search_at k here.element.0 here.element.1 _ here.at_place refl fed (λ more. search_from n (k + 1) (omega (arith, h)) more)
+      search_at k here.element.0 here.element.1 _ here.at_place refl fed
+      (λ more. search_from n (k + 1) (omega (arith, h)) more)
 
   searched : IsSearched elements
   searched = search_from (length elements) 0 (omega arith) (All-nil (IsFed elements))
@@ -157,7 +167,8 @@ record HasBlame (cause : ModelFault) (elements : Elements) (place : ℕ) : Type 
 
 blame_for : (cause : ModelFault) (elements : Elements) (place : ℕ) (entry : ElementName × Element)
     → slice_get elements place ≡ Some entry → HasBlame cause elements place
-blame_for cause elements place entry here = record { blame = blame_on cause entry; is = ap (option_map (blame_on cause)) here }
+blame_for cause elements place entry here =
+    record { blame = blame_on cause entry; is = ap (option_map (blame_on cause)) here }
 
 pub record HasAnswer (circuit : CircuitView) : Type 0 where
   pub answer : Result Unit Blame
@@ -166,7 +177,8 @@ pub record HasAnswer (circuit : CircuitView) : Type 0 where
 module _ (circuit : CircuitView) where
   answer_by_feeding : own_blame circuit ≡ Ok tt → first_too_many circuit.elements ≡ None → (found : Option ℕ)
       → FirstIsolated circuit.elements found → HasAnswer circuit
-  answer_by_feeding own few None fed = record { answer = Ok tt; right = record { no_own = own; not_many = few; all_fed = fed } }
+  answer_by_feeding own few None fed =
+      record { answer = Ok tt; right = record { no_own = own; not_many = few; all_fed = fed } }
   answer_by_feeding own few (Some k) first =
       let by = blame_for fault.IsolatedNode circuit.elements k first.element first.at_place in
       record { answer = Err by.blame; right = for_isolated by.blame k own few first by.is }
@@ -195,12 +207,15 @@ one_end c hour (ended Settled) n told = exactly_this settled
 one_end c hour (ended Limited) n told = exactly_this (failed (run.ControlLimit n.made))
 one_end c hour (ended (Undecidable k u)) n told = exactly_this (failed (undecided_at c k u))
 one_end c hour (stopped (range blame)) n told = exactly_this (failed (run.Script blame.place (cause.Model blame.cause)))
-one_end c hour (stopped (procedure (solving.NoInverse column stop))) n told = exactly_this (failed (run.NoInverse (unknown_of c column) stop))
-one_end c hour (stopped (procedure (solving.OutOfRange place k))) n told = exactly_this (failed (run.OutOfRange (unknown_of c place) k))
+one_end c hour (stopped (procedure (solving.NoInverse column stop))) n told =
+    exactly_this (failed (run.NoInverse (unknown_of c column) stop))
+one_end c hour (stopped (procedure (solving.OutOfRange place k))) n told =
+    exactly_this (failed (run.OutOfRange (unknown_of c place) k))
 one_end c hour (stopped (procedure (solving.NotConverged place steps update))) n told =
     exactly_this (failed (run.NotConverged (unknown_of c place) steps update))
 one_end c hour (stopped (procedure solving.NoMemory)) n told = absurd told
-one_end c hour (stopped (uncertified (loose row mismatch))) n told = exactly_this (failed (run.Loose (unknown_of c row) mismatch))
+one_end c hour (stopped (uncertified (loose row mismatch))) n told =
+    exactly_this (failed (run.Loose (unknown_of c row) mismatch))
 one_end c hour (stopped (uncertified (uncertain place bound))) n told =
     exactly_this (without_certificate (tried_round ((plant_at c hour).network n.at) (limits_of c.options))
     (run.NotCertified (unknown_of c place) (option_map nat_abs bound)))
@@ -255,7 +270,9 @@ module _ (c : CircuitView) (hour : ℕ) (l : Kept)
     same_settle =
         h.settle_is
         ∙ ap (λ (m : Computation). hour_settle c hour (begun_by c hour l) (rounds_of m.rounds) h.end m.machine.at) same
-        ∙ ap (λ (e : SettleEnd). hour_settle c hour (begun_by c hour l) (rounds_of one.some.rounds) e one.some.machine.at) same_end
+        ∙ ap
+        (λ (e : SettleEnd). hour_settle c hour (begun_by c hour l)
+        (rounds_of one.some.rounds) e one.some.machine.at) same_end
 
     same_kept : k ≡ only_kept
     same_kept = h.kept ∙ ap (λ (m : Computation). kept_by l m.machine) same
@@ -267,16 +284,18 @@ module _ (c : CircuitView) (hour : ℕ) (l : Kept)
       record {
         some = by.some;
         is = record { made = only_settle; kept = only_kept; is = is_hour; goes_on = by.is };
-        only = λ step h. by.only step (subst (λ (k : Kept). IsBehind only_settle only_settle.end (rest k) step) (same_kept h.made h.kept h.is)
+        only = λ step h. by.only step
+            (subst (λ (k : Kept). IsBehind only_settle only_settle.end (rest k) step) (same_kept h.made h.kept h.is)
             (subst (λ (x : Settle). IsBehind x x.end (rest h.kept) step) (same_settle h.made h.kept h.is) h.goes_on));
       }
 
 -- the hours of a Solve come to exactly one thing
 pub one_hours : (c : CircuitView) (hours : List ℕ) (l : Kept) → ExactlyOne (IsHoursStep c hours l)
-one_hours c [] l = exactly_this (goes (pending_events c l.machine.queue) (standing c l.machine.at l.settled))
+one_hours c [] l = exactly_this (goes (waits c l.machine.queue ∷ []) (standing c l.machine.at l.settled))
 one_hours c (hour ∷ hours) l =
     one_hour c hour l
-    (has_one_computation (limits_of c.options) (plant_at c hour) (begun_by c hour l).machine (omega (arith, begun_made c hour l.machine)))
+    (has_one_computation (limits_of c.options) (plant_at c hour) (begun_by c hour l).machine
+    (omega (arith, begun_made c hour l.machine)))
     (λ k step. IsHoursStep c hours k step) (λ k. one_hours c hours k)
 
 pub one_solution : (s : StandingView) → ExactlyOne (IsSolutionStep s)

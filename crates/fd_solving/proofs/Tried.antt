@@ -1,5 +1,6 @@
 -- A state that has no certificate, as it is printed.
-use Rattle.std.proofs.Common.{◌≡◌, ◌∙◌, ◌<◌, ◌≤◌, ◌^◌, ℕ, ℤ, nat_abs, nat_lt, Bool, true, List, [], length, Option, Some, None, is_some, Result, Ok, Err, ap, refl, sym, subst, arith}
+use Rattle.std.proofs.Common.{◌≡◌, ◌∙◌, ◌<◌, ◌≤◌, ◌^◌, ℕ, ℤ, nat_abs, nat_lt, Bool, true, List, [], length, Option}
+use Rattle.std.proofs.Common.{Some, None, is_some, Result, Ok, Err, ap, refl, sym, subst, arith}
 use Rattle.std.specs.Prelude.{All, pos}
 use Rattle.std.proofs.lemmas.Bool.{false_from_ne_true, ltb-false}
 use Rattle.std.proofs.lemmas.List.Elements.{All-get_or}
@@ -14,7 +15,8 @@ use Rattle.fd_daily.specs.fd_cert.declared.ball.Certified.{Certified}
 use Rattle.fd_daily.specs.fd_cert.declared.fault.CertFault.TheVariants as cert
 use Rattle.fd_pages.specs.fd_certfile.Rounds.{IsClaimOf}
 use Rattle.fd_daily.specs.fd_settings.Hours.{hour_powers}
-use Rattle.fd_daily.specs.fd_enclosure.Sound.{Claim, IsInverse, certificate_of, first_loose, greatest_mismatch, mismatch_at, mismatches_of, number_at, uncertain, unless_loose}
+use Rattle.fd_daily.specs.fd_enclosure.Sound.{Claim, IsInverse, certificate_of, first_loose, greatest_mismatch}
+use Rattle.fd_daily.specs.fd_enclosure.Sound.{mismatch_at, mismatches_of, number_at, uncertain, unless_loose}
 use Rattle.fd_daily.specs.fd_pattern.Conditions.{IsPart, IsPoint}
 use Rattle.fd_daily.specs.fd_pattern.Views.{NetworkView}
 use Rattle.fd_daily.specs.fd_inject.declared.fault.SolveFault.{SolveFault}
@@ -43,7 +45,8 @@ use Rattle.fd_solving.proofs.Solutions.{network_size, part_size}
 -- ---- the numbers of a claim
 
 centre_small : (x : List ℤ) (i n : ℕ) → length x ≡ n → All IsPart x → i < n → nat_abs (part x i) ≤ 2 ^ 40
-centre_small x i n long parts h = part_size (part x i) (All-get_or IsPart x i (pos 0) (subst (λ k. i < k) (sym long) h) parts)
+centre_small x i n long parts h =
+    part_size (part x i) (All-get_or IsPart x i (pos 0) (subst (λ k. i < k) (sym long) h) parts)
 
 -- a sound claim can be printed
 pub sound_claim : (c : CircuitView) (hour : ℕ) (at : Positions) (m : Claim)
@@ -100,13 +103,16 @@ module _ (v : NetworkView) (x : List ℤ) (c : List (List ℤ)) (place : ℕ) (s
 -- a state without a certificate can be printed
 claimed : (limits : Limits) (v : NetworkView) (place : ℕ) (sum : Option ℤ) (tried : Certified)
     → IsUncertified limits v (cert.NotCertified place sum tried) → IsClaimOf v.size (claim_in tried)
-claimed limits v place sum tried h = subst (IsClaimOf v.size) (sym h.reason.tried) (own_claim v h.centre h.inverse place sum h.parts h.entries h.reason.refusal)
+claimed limits v place sum tried h =
+    subst (IsClaimOf v.size) (sym h.reason.tried)
+    (own_claim v h.centre h.inverse place sum h.parts h.entries h.reason.refusal)
 
 -- it is the one that the procedure reaches
 pub tried_is : (limits : Limits) (v : NetworkView) (place : ℕ) (sum : Option ℤ) (tried : Certified)
     → IsUncertified limits v (cert.NotCertified place sum tried) → round_of (claim_in tried) [] ≡ tried_round v limits
 tried_is limits v place sum tried h =
-    ap (λ m. round_of m []) h.reason.tried ∙ sym (ap (λ (r : Result (List ℤ × List (List ℤ)) SolveFault). tried_by v (point_or_nothing r)) h.point)
+    ap (λ m. round_of m []) h.reason.tried
+    ∙ sym (ap (λ (r : Result (List ℤ × List (List ℤ)) SolveFault). tried_by v (point_or_nothing r)) h.point)
 
 -- an hour that failed without a state
 pub end_failed : (x : Failure) (f : Fault) → x.fault ≡ f → x.tried ≡ None → end_by (Some x) ≡ failed f
@@ -132,7 +138,8 @@ pub tried_by_calls : {V : Type 0} (limits : Limits) (p : Plant) (v : V) (m : Mac
     → CallsAs {V = V} {T = Unit {0}} (λ u net answer x. ComputeGives limits net answer) p v m rs result w
     → IsTriedBy limits p result (settled p m rs).machine
 tried_by_calls limits p v m rs (Ok t) w h = tt
-tried_by_calls limits p v m rs (Err (fault.Solver f)) w h = tried_by_solver limits (p.network (settled p m rs).machine.at) f h.last
+tried_by_calls limits p v m rs (Err (fault.Solver f)) w h =
+    tried_by_solver limits (p.network (settled p m rs).machine.at) f h.last
 tried_by_calls limits p v m rs (Err (fault.Range blame)) w h = tt
 tried_by_calls limits p v m rs (Err (fault.Undecided control low high edge)) w h = tt
 tried_by_calls limits p v m rs (Err (fault.ControlLimit acts)) w h = tt

@@ -1,5 +1,6 @@
 -- The procedure's definition gives no want of memory.
-use Rattle.std.proofs.Common.{◌≡◌, ℕ, zero, suc, ℤ, Bool, true, false, List, Option, Some, None, Result, Ok, Err, ap, if◌then◌else◌}
+use Rattle.std.proofs.Common.{◌≡◌, ℕ, zero, suc, ℤ, Bool, true, false, List, Option, Some, None, Result, Ok, Err, ap}
+use Rattle.std.proofs.Common.{if◌then◌else◌}
 use Rattle.std.specs.Prelude.{nat_lt, ◌+◌, ◌^◌}
 use Rattle.std.specs.List.{fold}
 use Rattle.dss_commands.specs.fd_exact.States.{part}
@@ -9,8 +10,10 @@ use Rattle.dss_commands.specs.fd_exact.Results.{and_then}
 use Rattle.fd_daily.specs.fd_mat.Rows.{first_column_past}
 use Rattle.fd_daily.specs.fd_inverse.Elimination.{inverse_of}
 use Rattle.fd_daily.specs.fd_inverse.declared.fault.Stop.{Stop}
-use Rattle.fd_daily.specs.fd_inject.Procedure.{Iterate, after, first_moving, iterated, judged, last_from, last_of, next_iterate, polished, solution_of, start_of, stepped, with_nominal}
-use Rattle.fd_daily.specs.fd_inject.Ranges.{first_past, in_range, inverse_at, inverse_unless, unless_past, without_inverse}
+use Rattle.fd_daily.specs.fd_inject.Procedure.{Iterate, after, first_moving, iterated, judged, last_from, last_of}
+use Rattle.fd_daily.specs.fd_inject.Procedure.{next_iterate, polished, solution_of, start_of, stepped, with_nominal}
+use Rattle.fd_daily.specs.fd_inject.Ranges.{first_past, in_range, inverse_at, inverse_unless, unless_past}
+use Rattle.fd_daily.specs.fd_inject.Ranges.{without_inverse}
 use Rattle.fd_daily.specs.fd_inject.Updates.{moved, update_for, update_of}
 use Rattle.fd_daily.specs.fd_inject.declared.fault.SolveFault.{SolveFault}
 use Rattle.fd_daily.specs.fd_inject.declared.fault.SolveFault.TheVariants.{NoMemory, NotConverged}
@@ -50,7 +53,9 @@ inverted m = inverse_by m (first_column_past (2 ^ 62) m)
 
 updated : (c : List (List ℤ)) (step : ℕ) (residual : List ℤ) → Told (update_for c step residual)
 unfolding update_for
-updated c step residual = followed (in_range (2 ^ 58) step residual) (λ r. Ok (update_of c r)) (ranged (2 ^ 58) step residual) (λ r. ok (update_of c r))
+updated c step residual =
+    followed (in_range (2 ^ 58) step residual) (λ r. Ok (update_of c r)) (ranged (2 ^ 58) step residual)
+    (λ r. ok (update_of c r))
 
 step_told : (v : NetworkView) (c : List (List ℤ)) (n : ℕ) (x : List ℤ) → Told (stepped v c n x)
 unfolding stepped
@@ -66,7 +71,9 @@ judged_told limits n s None is = cc is
 judged_told limits n s (Some place) is = cases (nat_lt n limits.max_iterations) is
   where
     cases : (b : Bool)
-        → Told {A = Iterate} (if b then Ok (record { number = n; x = s.0; is_last = false }) else Err (NotConverged place n (part s.1 place)))
+        → Told {A = Iterate}
+        (if b then Ok (record { number = n; x = s.0; is_last = false }) else Err
+        (NotConverged place n (part s.1 place)))
     cases true is = cc is
     cases false is = cc is
 
@@ -87,7 +94,9 @@ after_told v limits c i = cases i.is_last
 iterated_told : (v : NetworkView) (limits : Limits) (c : List (List ℤ)) (x : List ℤ) (k : ℕ)
     → Told (iterated v limits c x k)
 iterated_told v limits c x zero is = cc is
-iterated_told v limits c x (suc k) is = followed (iterated v limits c x k) (after v limits c) (iterated_told v limits c x k) (λ i. after_told v limits c i) is
+iterated_told v limits c x (suc k) is =
+    followed (iterated v limits c x k) (after v limits c) (iterated_told v limits c x k)
+    (λ i. after_told v limits c i) is
 
 from_told : (v : NetworkView) (limits : Limits) (c : List (List ℤ)) (x : List ℤ) → Told (last_from v limits c x)
 unfolding last_from
@@ -110,10 +119,14 @@ last_told v limits =
 
 polished_told : (v : NetworkView) (n : ℕ) (x : List ℤ) (c : List (List ℤ)) → Told (polished v n x c)
 unfolding polished
-polished_told v n x c = followed (stepped v c n x) (λ s. and_then (stepped v c (n + 1) s.0) (λ t. Ok (t.0, c))) (step_told v c n x)
+polished_told v n x c =
+    followed (stepped v c n x) (λ s. and_then (stepped v c (n + 1) s.0) (λ t. Ok (t.0, c))) (step_told v c n x)
     (λ s. followed (stepped v c (n + 1) s.0) (λ t. Ok (t.0, c)) (step_told v c (n + 1) s.0) (λ t. ok (t.0, c)))
 
 pub never_memory : (v : NetworkView) (limits : Limits) → Told (solution_of v limits)
 unfolding solution_of
-never_memory v limits = followed (last_of v limits) (λ i. and_then (inverse_at (jacobian_of v i.1)) (polished v i.0 i.1)) (last_told v limits)
-    (λ i. followed (inverse_at (jacobian_of v i.1)) (polished v i.0 i.1) (inverted (jacobian_of v i.1)) (λ c. polished_told v i.0 i.1 c))
+never_memory v limits =
+    followed (last_of v limits) (λ i. and_then (inverse_at (jacobian_of v i.1)) (polished v i.0 i.1))
+    (last_told v limits)
+    (λ i. followed (inverse_at (jacobian_of v i.1)) (polished v i.0 i.1) (inverted (jacobian_of v i.1))
+    (λ c. polished_told v i.0 i.1 c))

@@ -1,5 +1,7 @@
 -- A command adds no more elements and Solves than its room in the script pays for.
-use Rattle.std.proofs.Common.{◌≡◌, ◌∙◌, ◌+◌, ◌≤◌, ◌&&◌, ℕ, Bool, true, false, List, [], ◌∷◌, length, Option, Some, None, Result, Ok, Err, refl, sym, ap, subst, arith, cond, inl, inr, ◌⊎◌, nat_eq, nat_le, if◌then◌else◌}
+use Rattle.std.proofs.Common.{◌≡◌, ◌∙◌, ◌+◌, ◌≤◌, ◌&&◌, ℕ, Bool, true, false, List, [], ◌∷◌, length, Option, Some, None}
+use Rattle.std.proofs.Common.{Result, Ok, Err, refl, sym, ap, subst, arith, cond, inl, inr, ◌⊎◌, nat_eq, nat_le}
+use Rattle.std.proofs.Common.{if◌then◌else◌}
 use Rattle.std.specs.Prelude.{codes}
 use Rattle.std.specs.Char.{to_ascii_lowercase}
 use Rattle.std.specs.Cmp.Lexicographic.{pointwise}
@@ -41,7 +43,8 @@ use Rattle.fd_pages.specs.fd_outcome.Work.{Step, goes, ends}
 use Rattle.fd_pages.specs.Bases.{base_events}
 use Rattle.fd_pages.specs.Hours.{Kept}
 use Rattle.fd_solving.specs.Answered.{solve_count}
-use Rattle.fd_solving.specs.Commands.{Applied, bases_left, IsByTests, IsStep, IsStepOf, left_of, nothing_left, refused_at, solve_left, tried}
+use Rattle.fd_solving.specs.Commands.{Applied, bases_left, IsByTests, IsStep, IsStepOf, left_of, nothing_left}
+use Rattle.fd_solving.specs.Commands.{refused_at, solve_left, tried}
 use Rattle.fd_solving.specs.Solving.{IsBehind, IsHoursStep, IsSolutionStep, kept_first}
 use Rattle.fd_solving.specs.Steps.{StandingView, behind_events, changes, refuses, standing}
 use Rattle.fd_daily.specs.fd_queue.Controls.{Positions}
@@ -61,7 +64,8 @@ both false false h = cc h
 long_name : (name v : List ℕ) → pointwise nat_eq (bytes name) name ≡ true → nat_le 4 (length name) ≡ true
     → pointwise nat_eq name (bytes (lower v)) ≡ true → 4 ≤ length v
 long_name name v plain long is =
-    let same : name ≡ lower v = encodes_same name (lower v) (same_from (bytes name) name plain ∙ same_from name (bytes (lower v)) is) in
+    let same : name ≡ lower v =
+    encodes_same name (lower v) (same_from (bytes name) name plain ∙ same_from name (bytes (lower v)) is) in
     let four : 4 ≤ length name = leb-true _ _ long in
     omega (arith, four, ap (λ xs. length xs) same, length-map v to_ascii_lowercase)
 
@@ -122,7 +126,8 @@ inserted [] name element = omega arith
 inserted (e ∷ es) name element = cases (same_element name e.0) (inserted es name element)
   where
     cases : (b : Bool) → length (insert_entry same_element es name element) ≤ 1 + length es
-        → length (if b then (e.0, element) ∷ es else e ∷ insert_entry same_element es name element) ≤ 1 + length (e ∷ es)
+        → length (if b then (e.0, element) ∷ es else e ∷ insert_entry same_element es name element) ≤ 1 + length
+        (e ∷ es)
     cases true rest = omega arith
     cases false rest = omega (arith, rest)
 
@@ -159,7 +164,8 @@ put_more : (name : ElementName) (element : Element) (pairs : List Pair) (circuit
 unfolding put
 put_more name element pairs circuit new h =
     let es = circuit.elements in
-    let t = through (with_pairs circuit.solves es name.class pairs element) (λ e. Ok (with_elements circuit (insert_entry same_element es name e))) new h in
+    let t = through (with_pairs circuit.solves es name.class pairs element)
+    (λ e. Ok (with_elements circuit (insert_entry same_element es name e))) new h in
     grown 1 circuit new (insert_entry same_element es name t.value) (cc t.next) (inserted es name t.value)
 
 put_same : (name : ElementName) (element there : Element) (pairs : List Pair) (circuit new : CircuitView)
@@ -168,10 +174,13 @@ put_same : (name : ElementName) (element there : Element) (pairs : List Pair) (c
 unfolding put
 put_same name element there pairs circuit new found h =
     let es = circuit.elements in
-    let t = through (with_pairs circuit.solves es name.class pairs element) (λ e. Ok (with_elements circuit (insert_entry same_element es name e))) new h in
-    grown 0 circuit new (insert_entry same_element es name t.value) (cc t.next) (omega (arith, replaced es name t.value there found))
+    let t = through (with_pairs circuit.solves es name.class pairs element)
+    (λ e. Ok (with_elements circuit (insert_entry same_element es name e))) new h in
+    grown 0 circuit new (insert_entry same_element es name t.value) (cc t.next)
+    (omega (arith, replaced es name t.value there found))
 
-make_where_more : (there : Option Element) (place : Place) (name : ElementName) (pairs : List Pair) (circuit new : CircuitView)
+make_where_more : (there : Option Element) (place : Place) (name : ElementName) (pairs : List Pair)
+    (circuit new : CircuitView)
     → make_where there place name pairs circuit ≡ Ok new → Grows 1 circuit new
 make_where_more None place name pairs circuit new h = put_more name _ pairs circuit new h
 make_where_more (Some there) place name pairs circuit new h = cc h
@@ -179,7 +188,8 @@ make_where_more (Some there) place name pairs circuit new h = cc h
 make_more : (place : Place) (name : ElementName) (pairs : List Pair) (circuit new : CircuitView)
     → make place name pairs circuit ≡ Ok new → Grows 1 circuit new
 unfolding make
-make_more place name pairs circuit new h = make_where_more (lookup (same_element name) circuit.elements) place name pairs circuit new h
+make_more place name pairs circuit new h =
+    make_where_more (lookup (same_element name) circuit.elements) place name pairs circuit new h
 
 edit_same : (name : ElementName) (pairs : List Pair) (circuit new : CircuitView) → edit name pairs circuit ≡ Ok new
     → Grows 0 circuit new
@@ -209,8 +219,10 @@ solve_takes : (place : Place) (pairs : List Pair) (circuit new : CircuitView) �
     → Takes (verb.Solve pairs) circuit new
 unfolding solve
 solve_takes place pairs circuit new h =
-    let keep : Options → Result CircuitView ModelFault = λ o. Ok (record circuit { options = o; solves = circuit.solves + 1 }) in
-    let t = through (needed (has_circuit circuit.elements)) (λ done. with_options pairs circuit.options >>= keep) new h in
+    let keep : Options → Result CircuitView ModelFault =
+    λ o. Ok (record circuit { options = o; solves = circuit.solves + 1 }) in
+    let t = through (needed (has_circuit circuit.elements))
+    (λ done. with_options pairs circuit.options >>= keep) new h in
     let u = through (with_options pairs circuit.options) keep new t.next in
     let is : record circuit { options = u.value; solves = circuit.solves + 1 } ≡ new = cc u.next in
     let elements : length circuit.elements ≡ length new.elements = ap (λ (c : CircuitView). length c.elements) is in
@@ -284,10 +296,12 @@ behind_leaves : (now : CircuitView) (events : List Event) (step : Step StandingV
 behind_leaves now events (goes more s) h = h
 behind_leaves now events (ends more f) h = h
 
-hour_leaves : (c now : CircuitView) (x : Settle) (end : SettleEnd) (rest : Step StandingView → Type 0) (step : Step StandingView)
+hour_leaves : (c now : CircuitView) (x : Settle) (end : SettleEnd) (rest : Step StandingView → Type 0)
+    (step : Step StandingView)
     → ((more : Step StandingView) → rest more → Leaves more now → c ≡ now) → IsBehind x end rest step → Leaves step now
     → c ≡ now
-hour_leaves c now x settled rest step go is h = go is.more is.right (behind_leaves now (settle x ∷ []) is.more (left_by now step _ is.step_is h))
+hour_leaves c now x settled rest step go is h =
+    go is.more is.right (behind_leaves now (settle x ∷ []) is.more (left_by now step _ is.step_is h))
 hour_leaves c now x (failed f) rest step go is h = absurd (left_by now step _ is h)
 hour_leaves c now x (without_certificate r f) rest step go is h = absurd (left_by now step _ is h)
 
@@ -310,9 +324,11 @@ tests_leave s now (Err blame) step is h = absurd (left_by now step _ is h)
 
 step_reaches : (at : Positions) (n : ℕ) (left : Applied) (step : Step StandingView) (now : CircuitView)
     → IsStepOf at n left step → Leaves step now → Reaches left now
-step_reaches at n (nothing_left circuit) step now is leaves = inl (ap nothing_left (left_by now step (changes (standing circuit at n)) is leaves))
+step_reaches at n (nothing_left circuit) step now is leaves =
+    inl (ap nothing_left (left_by now step (changes (standing circuit at n)) is leaves))
 step_reaches at n (refused_at place c) step now is leaves = absurd (left_by now step (refuses place c) is leaves)
-step_reaches at n (solve_left circuit) step now is leaves = inr (inl (ap solve_left (tests_leave (standing circuit at n) now is.answer step is.step_is leaves)))
+step_reaches at n (solve_left circuit) step now is leaves =
+    inr (inl (ap solve_left (tests_leave (standing circuit at n) now is.answer step is.step_is leaves)))
 step_reaches at n (bases_left circuit) step now is leaves =
     inr (inr (ap bases_left (left_by now step (goes (base_events circuit) (standing circuit at n)) is leaves)))
 

@@ -44,16 +44,16 @@ IsRefusal (bases_left c) f = ⊥
 IsRefusal (refused_at place x) f = f ≡ fault.Script place x
 IsRefusal (solve_left c) f = IsBlamed c f
 
--- What is left of a command with the circuit as it is now: nothing; or the voltage bases of buses; or it is a Solve that
--- passed the tests; or it is refused.
+-- What is left of a command with the circuit as it is now: nothing; or the voltage bases of buses; or it is a Solve
+-- that passed the tests; or it is refused.
 abbrev pub IsAnswered : Applied → CircuitView → Answer → Type 0
 IsAnswered left c answer.Done = left ≡ nothing_left c
 IsAnswered left c answer.Bases = left ≡ bases_left c
 IsAnswered left c answer.Solves = (left ≡ solve_left c) × HasPassed c
 IsAnswered left c (answer.Refuses f) = IsRefusal left f
 
--- What is left of a command comes to this for `solve`: it is done; or it ends the run with a fault; or it asks for voltage
--- bases; or it is a Solve that passed the tests, and comes to what the hours of the Solve come to.
+-- What is left of a command comes to this for `solve`: it is done; or it ends the run with a fault; or it asks for
+-- voltage bases; or it is a Solve that passed the tests, and comes to what the hours of the Solve come to.
 abbrev pub IsAnswerOf : Positions → ℕ → Applied → CircuitView → Answer → Type 0
 IsAnswerOf at settled left c answer.Done = IsStepOf at settled left (changes (standing c at settled))
 IsAnswerOf at settled left c answer.Bases = IsStepOf at settled left (goes (base_events c) (standing c at settled))

@@ -27,9 +27,12 @@ use Rattle.fd_solving.specs.declared.faults.Failure.{Failure}
 -- ---- how a settle ended; want of memory tells none
 
 abbrev pub ending_by_solver : ComputeFault → Option Ending
-ending_by_solver (compute.Solve (solving.NoInverse column stop)) = Some (stopped (procedure (solving.NoInverse column stop)))
-ending_by_solver (compute.Solve (solving.OutOfRange place step)) = Some (stopped (procedure (solving.OutOfRange place step)))
-ending_by_solver (compute.Solve (solving.NotConverged place steps update)) = Some (stopped (procedure (solving.NotConverged place steps update)))
+ending_by_solver (compute.Solve (solving.NoInverse column stop)) =
+    Some (stopped (procedure (solving.NoInverse column stop)))
+ending_by_solver (compute.Solve (solving.OutOfRange place step)) =
+    Some (stopped (procedure (solving.OutOfRange place step)))
+ending_by_solver (compute.Solve (solving.NotConverged place steps update)) =
+    Some (stopped (procedure (solving.NotConverged place steps update)))
 ending_by_solver (compute.Solve solving.NoMemory) = None
 ending_by_solver (compute.Cert (cert.Loose row mismatch)) = Some (stopped (uncertified (loose row mismatch)))
 ending_by_solver (compute.Cert (cert.NotCertified place sum tried)) = Some (stopped (uncertified (uncertain place sum)))
@@ -38,7 +41,8 @@ ending_by_solver (compute.Cert cert.NoMemory) = None
 abbrev pub ending_of : SettleFault ComputeFault → Option Ending
 ending_of (fault.Range blame) = Some (stopped (range blame))
 ending_of (fault.Solver f) = ending_by_solver f
-ending_of (fault.Undecided control low high edge) = Some (ended (Undecidable control (record { low = low; high = high; edge = edge })))
+ending_of (fault.Undecided control low high edge) =
+    Some (ended (Undecidable control (record { low = low; high = high; edge = edge })))
 ending_of (fault.ControlLimit acts) = Some (ended Limited)
 ending_of fault.NoMemory = None
 
@@ -74,7 +78,8 @@ IsTriedAt c hour other n = Unit {0}
 
 -- this failure tells how a settle of an hour of the circuit ended, whatever machine it left
 abbrev pub TellsOf : CircuitView → ℕ → SettleFault ComputeFault → Failure → Type 0
-TellsOf c hour e x = (n : Machine) → IsCounted e n → IsTriedAt c hour e n → IsEnding (ending_of e) (IsFailureAt c hour n x)
+TellsOf c hour e x =
+    (n : Machine) → IsCounted e n → IsTriedAt c hour e n → IsEnding (ending_of e) (IsFailureAt c hour n x)
 
 -- the same of a fault of the solver
 abbrev pub TellsOfSolver : CircuitView → ℕ → ComputeFault → Failure → Type 0
@@ -84,7 +89,8 @@ TellsOfSolver c hour e x =
 
 -- the same of a fault of the procedure, which tells no state
 abbrev pub TellsOfPoint : CircuitView → ℕ → SolveFault → Fault → Type 0
-TellsOfPoint c hour e f = (n : Machine) → IsEnding (ending_by_solver (compute.Solve e)) (λ ending. IsEndBy c hour ending n (failed f))
+TellsOfPoint c hour e f =
+    (n : Machine) → IsEnding (ending_by_solver (compute.Solve e)) (λ ending. IsEndBy c hour ending n (failed f))
 
 -- the state that a fault tells
 abbrev pub tried_in : ComputeFault → Option Certified

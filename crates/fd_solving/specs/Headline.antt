@@ -74,7 +74,8 @@ module _ (circuit : CircuitView) (hour : ℕ) (at : Positions) where
   abbrev pub IsLinear : Type 0
   IsLinear = All IsImpedance hour_network.stamp.loads
 
-  -- every state of any denominator, in no box, that meets the round's mismatches is within the radii of the round's state
+  -- every state of any denominator, in no box, that meets the round's mismatches is within the radii of the round's
+  -- state
   abbrev pub EnclosesAll : Claim → Type 0
   EnclosesAll m = (x : State) → 0 < x.over → MeetsRound m x → IsInBall m.centre m.radii x
 
@@ -100,13 +101,16 @@ module _ (circuit : CircuitView) (hour : ℕ) (at : Positions) where
 
   -- the box that is printed is that in which other states are looked at
   abbrev pub HasItsBox : Claim → Type 0
-  HasItsBox m = (place : ℕ) → place < equation_count → number_at m.boxes place ≡ box_at (layout_of circuit.elements) m.centre place
+  HasItsBox m =
+      (place : ℕ) → place < equation_count
+      → number_at m.boxes place ≡ box_at (layout_of circuit.elements) m.centre place
 
   -- both parts of a voltage and of a current have one radius and one box
   abbrev pub HaveOneBall : Claim → Type 0
   HaveOneBall m =
       (k : ℕ) → k < complex_count (layout_of circuit.elements)
-      → (number_at m.radii (2 * k) ≡ number_at m.radii (2 * k + 1)) × (number_at m.boxes (2 * k) ≡ number_at m.boxes (2 * k + 1))
+      → (number_at m.radii (2 * k) ≡ number_at m.radii (2 * k + 1))
+      × (number_at m.boxes (2 * k) ≡ number_at m.boxes (2 * k + 1))
 
   -- The state is the one that the procedure reaches, and its certificate is sound: its mismatches, at most 1,000, and
   -- its radii are exactly those of its network. The state meets the equations of the scripted circuit within the
@@ -149,7 +153,8 @@ pub record HasModestNumbers (s : Settle) : Type 0 where
   pub number : s.number < 2 ^ 32
   pub hour : s.hour < 2 ^ 32
   pub few : length s.rounds < 2 ^ 32
-  pub acts : AllByRecursion (λ (r : Round). AllByRecursion (λ (a : Act). AreActNumbers a.time a.control a.steps) r.acts) s.rounds
+  pub acts : AllByRecursion
+      (λ (r : Round). AllByRecursion (λ (a : Act). AreActNumbers a.time a.control a.steps) r.acts) s.rounds
 
 pub record IsSolved (s : Settle) : Type 0 where
   pub solutions : AreSolutions s

@@ -53,7 +53,8 @@ module _ {S : Type 0} (style : Style) (taken : S → List ℕ) (calls : S → �
     pub is : IsHour c hour l made kept
     pub fault : Fault
     pub ill : fault_of made.end ≡ Some fault
-    pub printed : Printed taken calls old new true (record { calls = settle_calls style begun made ++ writes (fault_text fault) ∷ []; end = Some fault }) code
+    pub printed : Printed taken calls old new true
+        (record { calls = settle_calls style begun made ++ writes (fault_text fault) ∷ []; end = Some fault }) code
 
   -- memory ran out before it was solved, and nothing is printed
   pub record IsShortHour (code : ℕ) : Type 0 where

@@ -22,4 +22,5 @@ first_standing = standing empty_circuit no_positions 0
 
 -- the history of the commands of a script, which begins with no circuit
 abbrev pub IsScriptHistory : Files → Part → History → Type 0
-IsScriptHistory files p h = IsHistory IsStep no_name IsDoneThere (λ n. held files (bytes n)) p.said (ended_by p.left) first_standing h
+IsScriptHistory files p h =
+    IsHistory IsStep no_name IsDoneThere (λ n. held files (bytes n)) p.said (ended_by p.left) first_standing h

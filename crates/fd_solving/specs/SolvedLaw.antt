@@ -24,5 +24,7 @@ SolvedLaw =
 -- those of one Solve of a circuit that has passed the tests, where so many settles came before it
 abbrev pub SolutionLaw : Type 0
 SolutionLaw =
-    (c : CircuitView) (at : Positions) (n : ℕ) (step : Step StandingView) → HasPassed c → IsWithinLimits c.elements c.options
-    → All AreTaps at.taps → n + 8761 < 2 ^ 32 → IsSolutionStep (standing c at n) step → AllSettles IsSolved (events_in step)
+    (c : CircuitView) (at : Positions) (n : ℕ) (step : Step StandingView) → HasPassed c
+    → IsWithinLimits c.elements c.options
+    → All AreTaps at.taps → n + 8761 < 2 ^ 32 → IsSolutionStep (standing c at n) step
+    → AllSettles IsSolved (events_in step)

@@ -1,5 +1,6 @@
 -- What a Solve of a circuit that passed the tests comes to: the settles of its hours.
-use Rattle.std.specs.Prelude.{◌≡◌, ℕ, ◌+◌, ℤ, [], ◌∷◌, nat_abs, List, map, slice_get, Option, Some, None, option_map, Result, Ok, Err}
+use Rattle.std.specs.Prelude.{◌≡◌, ℕ, ◌+◌, ℤ, [], ◌∷◌, nat_abs, List, map, slice_get, Option, Some, None, option_map}
+use Rattle.std.specs.Prelude.{Result, Ok, Err}
 use Rattle.dss_commands.specs.dss_model.declared.words.ControlQuantity.{ControlQuantity}
 use Rattle.dss_commands.specs.dss_model.declared.words.ControlQuantity.TheVariants as quantity
 use Rattle.dss_commands.specs.dss_model.declared.element.Element.{Element}
@@ -29,13 +30,12 @@ use Rattle.fd_pages.specs.fd_report.declared.faults.Fault.{Fault}
 use Rattle.fd_pages.specs.fd_report.declared.faults.Fault.TheVariants as fault
 use Rattle.fd_pages.specs.fd_report.declared.faults.Scale.{Scale}
 use Rattle.fd_pages.specs.fd_report.declared.faults.Scale.TheVariants as scale
-use Rattle.fd_pages.specs.fd_outcome.Events.{settle}
+use Rattle.fd_pages.specs.fd_outcome.Events.{Event, settle, waits}
 use Rattle.fd_pages.specs.fd_outcome.Pages.{controls_of}
 use Rattle.fd_pages.specs.fd_outcome.Settles.{Round, Settle, SettleEnd, round_of, settled, failed, without_certificate}
 use Rattle.fd_pages.specs.fd_outcome.Work.{Step, goes, ends}
 use Rattle.fd_pages.specs.Hours.{Kept, hour_settle}
-use Rattle.fd_pages.specs.Pending.{pending_events}
-use Rattle.fd_solving.specs.Steps.{StandingView, behind_events, standing}
+use Rattle.fd_solving.specs.Steps.{StandingView, behind_events, standing, step_with}
 
 -- ---- the machine
 
@@ -103,12 +103,15 @@ IsEndBy c hour (ended Settled) n end = end ≡ settled
 IsEndBy c hour (ended Limited) n end = end ≡ failed (fault.ControlLimit n.made)
 IsEndBy c hour (ended (Undecidable k u)) n end = end ≡ failed (undecided_at c k u)
 IsEndBy c hour (stopped (range blame)) n end = end ≡ failed (fault.Script blame.place (cause.Model blame.cause))
-IsEndBy c hour (stopped (computed.procedure (procedure.NoInverse column stop))) n end = end ≡ failed (fault.NoInverse (unknown_of c column) stop)
-IsEndBy c hour (stopped (computed.procedure (procedure.OutOfRange place step))) n end = end ≡ failed (fault.OutOfRange (unknown_of c place) step)
+IsEndBy c hour (stopped (computed.procedure (procedure.NoInverse column stop))) n end =
+    end ≡ failed (fault.NoInverse (unknown_of c column) stop)
+IsEndBy c hour (stopped (computed.procedure (procedure.OutOfRange place step))) n end =
+    end ≡ failed (fault.OutOfRange (unknown_of c place) step)
 IsEndBy c hour (stopped (computed.procedure (procedure.NotConverged place steps update))) n end =
     end ≡ failed (fault.NotConverged (unknown_of c place) steps update)
 IsEndBy c hour (stopped (computed.procedure procedure.NoMemory)) n end = ⊥
-IsEndBy c hour (stopped (uncertified (loose row mismatch))) n end = end ≡ failed (fault.Loose (unknown_of c row) mismatch)
+IsEndBy c hour (stopped (uncertified (loose row mismatch))) n end =
+    end ≡ failed (fault.Loose (unknown_of c row) mismatch)
 IsEndBy c hour (stopped (uncertified (uncertain place bound))) n end =
     end
     ≡ without_certificate (tried_round ((plant_at c hour).network n.at) (limits_of c.options))
@@ -124,7 +127,8 @@ pub record IsHour (c : CircuitView) (hour : ℕ) (l : Kept) (x : Settle) (k : Ke
   pub rounds : List (Claim × List Act)
   pub ending : Ending
   pub machine : Machine
-  pub computed : IsComputedFrom (limits_of c.options) (plant_at c hour) (begun_by c hour l).machine rounds ending machine
+  pub computed : IsComputedFrom (limits_of c.options) (plant_at c hour)
+      (begun_by c hour l).machine rounds ending machine
   pub end : SettleEnd
   pub end_is : IsEndBy c hour ending machine end
   pub settle_is : x ≡ hour_settle c hour (begun_by c hour l) (rounds_of rounds) end machine.at
@@ -154,9 +158,16 @@ pub record IsHourStep (c : CircuitView) (hour : ℕ) (l : Kept) (rest : Kept →
 
 -- the hours that are left, one after the other, from what was kept; behind the last one the entries that still wait
 abbrev pub IsHoursStep : CircuitView → List ℕ → Kept → Step StandingView → Type 0
-IsHoursStep c [] l step = step ≡ goes (pending_events c l.machine.queue) (standing c l.machine.at l.settled)
+IsHoursStep c [] l step = step ≡ goes (waits c l.machine.queue ∷ []) (standing c l.machine.at l.settled)
 IsHoursStep c (hour ∷ hours) l step = IsHourStep c hour l (λ k s. IsHoursStep c hours k s) step
 
 -- all hours of the Solve
 unfoldable pub IsSolutionStep : StandingView → Step StandingView → Type 0
 IsSolutionStep s step = IsHoursStep s.circuit (hours_of s.circuit.options) (kept_first s) step
+
+-- with what stands behind its settles, where it leaves another state
+pub record IsSolutionWith (beside : Settle → List Event) (leave : StandingView → StandingView) (s : StandingView)
+    (step : Step StandingView) : Type 0 where
+  pub solved : Step StandingView
+  pub right : IsSolutionStep s solved
+  pub step_is : step ≡ step_with beside leave solved

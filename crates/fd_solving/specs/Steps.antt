@@ -5,7 +5,8 @@ use Rattle.dss_commands.specs.dss_circuit.Circuit.{CircuitView}
 use Rattle.fd_daily.specs.fd_queue.Controls.{Positions}
 use Rattle.fd_pages.specs.fd_report.declared.faults.Cause.{Cause}
 use Rattle.fd_pages.specs.fd_report.declared.faults.Fault.TheVariants as fault
-use Rattle.fd_pages.specs.fd_outcome.Events.{Event}
+use Rattle.fd_pages.specs.fd_outcome.Events.{Event, behind_settles}
+use Rattle.fd_pages.specs.fd_outcome.Settles.{Settle}
 use Rattle.fd_pages.specs.fd_outcome.Work.{Step, goes, ends}
 
 -- between two commands: the circuit, the positions of taps and banks that its last Solve left, none before the first,
@@ -28,3 +29,8 @@ refuses place c = ends [] (fault.Script place c)
 abbrev pub behind_events : List Event → Step StandingView → Step StandingView
 behind_events front (goes events s) = goes (front ++ events) s
 behind_events front (ends events f) = ends (front ++ events) f
+
+-- a step with what stands behind its settles, which leaves another state
+abbrev pub step_with : (Settle → List Event) → (StandingView → StandingView) → Step StandingView → Step StandingView
+step_with beside leave (goes events s) = goes (behind_settles beside events) (leave s)
+step_with beside leave (ends events f) = ends (behind_settles beside events) f

@@ -17,7 +17,11 @@ abbrev pub with_greatest : ℕ → Round → ℕ
 with_greatest so_far r = fold max so_far r.mismatches
 
 abbrev pub with_rounds : Tally → ℕ → List Round → Tally
-with_rounds t unknowns rounds = record { unknowns = unknowns; solutions = t.solutions + length rounds; greatest = fold with_greatest t.greatest rounds }
+with_rounds t unknowns rounds = record {
+  unknowns = unknowns;
+  solutions = t.solutions + length rounds;
+  greatest = fold with_greatest t.greatest rounds;
+}
 
 -- a settle adds its rounds, and its circuit is the last that was solved
 abbrev pub tallied : Tally → Event → Tally

@@ -45,15 +45,14 @@ pub use line::Line;
 pub use print::{WANT_OF_MEMORY, print_bases, print_end, print_fault, print_last};
 pub use script::run_script;
 pub use solving::{solve, take_command};
-pub use standing::Standing;
+pub use standing::{Standing, no_positions};
 pub use step::answer_to;
 pub use tally::Tally;
 
 // Handed on from the crates below.
 pub use dss_commands::{Circuit, Class, Command, ElementName, ModelError, Text, apply, limits_law};
 pub use fd_daily::{
-    BankStates, BuildFault, Compute, Positions, Rule, Taps, hours_law, modest_law, network_law,
-    next_law,
+    BuildFault, Compute, Positions, Rule, hours_law, modest_law, network_law, next_law,
 };
 pub use fd_pages::{
     Cause, CertFileFault, Certificate, Certified, ControlMode, Entry, Fault, Found, Ladder, Layout,

@@ -8,12 +8,12 @@ ghost use Rattle.fd_daily.specs.fd_sample.Circuits.{probes_of};
 ghost use Rattle.fd_daily.specs.fd_sample.Probes.{positions_in};
 ghost use Rattle.fd_pages.specs.fd_outcome.Behind.{behind, closes, has_text, last_calls, opened_unless};
 ghost use Rattle.fd_pages.specs.fd_outcome.Calls.{body, fault_text, opened, writes};
+ghost use Rattle.fd_pages.specs.fd_outcome.Events.{waits};
 ghost use Rattle.fd_pages.specs.fd_outcome.Parts.{IsCutIn, Printed, Wrote, fault_doing};
 ghost use Rattle.fd_pages.specs.fd_outcome.Way.{whole};
 ghost use Rattle.fd_pages.specs.fd_outcome.Settles.{settled};
 ghost use Rattle.fd_pages.specs.Hours.{IsPrintable, IsTriedOf, settle_made, end_with, Kept};
 ghost use Rattle.fd_pages.specs.Bases.{base_events};
-ghost use Rattle.fd_pages.specs.Pending.{pending_events};
 ghost use Rattle.fd_solving.specs.Endings.{end_by};
 ghost use Rattle.fd_solving.specs.Printing.{begun_behind, settle_calls};
 
@@ -145,9 +145,9 @@ pub(crate) fn print_pending<P: Page, S: Sink>(
     begun: &mut bool,
     out: &mut S,
 ) -> Option<u8>
-    ensures goes { IfNone result (Wrote S.taken S.calls out.old out.new (whole (behind P.style begun.old (pending_events circuit.now entries.now)))) }
-    ensures begun { result ≡ None → begun.new ≡ (begun.old || has_text (body P.style (pending_events circuit.now entries.now))) }
-    ensures ends { IfSome result (IsCutIn S.taken S.calls out.old out.new (behind P.style begun.old (pending_events circuit.now entries.now))) }
+    ensures goes { IfNone result (Wrote S.taken S.calls out.old out.new (whole (behind P.style begun.old (waits circuit.now entries.now ∷ [])))) }
+    ensures begun { result ≡ None → begun.new ≡ (begun.old || has_text (body P.style (waits circuit.now entries.now ∷ []))) }
+    ensures ends { IfSome result (IsCutIn S.taken S.calls out.old out.new (behind P.style begun.old (waits circuit.now entries.now ∷ []))) }
     ensures later { S.faults out.old ≤ S.faults out.new }
     ensures write { IfSome result (λ code. code ≡ 5 → Rose (S.faults out.old) (S.faults out.new)) }
 {

@@ -1,5 +1,8 @@
 // What stands between two commands.
-ghost use Rattle.std.specs.Prelude.{◌≡◌};
+ghost use Rattle.std.specs.Prelude.{◌≡◌, All};
+ghost use Rattle.fd_daily.specs.Underway.{no_positions};
+ghost use Rattle.fd_daily.specs.fd_sample.Probes.{positions_in};
+ghost use Rattle.fd_daily.specs.fd_xfmr.Leakage.{AreTaps};
 ghost use Rattle.fd_solving.specs.Scripts.{first_standing};
 
 use dss_commands::Circuit;
@@ -33,6 +36,17 @@ impl<P: Page> Model for Standing<P> {
     ghost invariant = { λ s. All AreTaps s.at.taps × (s.settled ≤ 8761 * s.circuit.solves) };
 }
 
+/// No positions of taps or banks: what stands before the first Solve.
+pub fn no_positions(alloc: Global) -> Positions
+    ensures none { positions_in result ≡ no_positions }
+    ensures taps { All AreTaps result.taps }
+{
+    Positions {
+        taps: Taps::new(Vec::new(alloc)),
+        closed: BankStates::new(Vec::new(alloc)),
+    }
+}
+
 impl<P: Page> Standing<P> {
     /// No circuit, no positions, and no settle.
     pub fn new(alloc: Global) -> Standing<P>
@@ -40,10 +54,7 @@ impl<P: Page> Standing<P> {
     {
         Standing {
             circuit: Circuit::empty(alloc),
-            at: Positions {
-                taps: Taps::new(Vec::new(alloc)),
-                closed: BankStates::new(Vec::new(alloc)),
-            },
+            at: no_positions(alloc),
             settled: 0,
             solver: Compute::new(alloc),
             page: PhantomData,

@@ -1,5 +1,6 @@
 -- Where a record says that a sweep agrees, it does.
-use Rattle.std.proofs.Common.{◌≡◌, ◌≢◌, ◌∙◌, ℕ, ◌+◌, ◌*◌, ◌<◌, ◌≤◌, ◌^◌, max, ℤ, pos, ◌-ℤ◌, ◌*ℤ◌, nat_abs, nat_lt, Bool, false, true, List, length, Option, Some, None, Ok, refl, sym, ap, subst, arith}
+use Rattle.std.proofs.Common.{◌≡◌, ◌≢◌, ◌∙◌, ℕ, ◌+◌, ◌*◌, ◌<◌, ◌≤◌, ◌^◌, max, ℤ, pos, ◌-ℤ◌, ◌*ℤ◌, nat_abs, nat_lt, Bool}
+use Rattle.std.proofs.Common.{false, true, List, length, Option, Some, None, Ok, refl, sym, ap, subst, arith}
 use Rattle.std.proofs.lemmas.Bool.{ltb-false}
 use Rattle.std.proofs.lemmas.Int.{ints}
 use Rattle.fd_solving.specs.fd_exact.First.{first_place}
@@ -25,7 +26,8 @@ use Rattle.fd_solving.specs.fd_system.Residual.{whole_state}
 use Rattle.fd_solving.specs.fd_system.System.{residual_of}
 use Rattle.fd_solving.proofs.CallerLemmas.fd_equations.{get_or-list_of, length-list_of}
 use Rattle.fd_sweep.specs.fd_rungs.declared.swept.Swept.TheVariants.{Settled}
-use Rattle.fd_sweeping.specs.Beside.{apart_at, by_box, by_mismatches, by_width, first_outside, gap, greater_at, greater_mismatches, is_outside_by, ladder_of, radius}
+use Rattle.fd_sweeping.specs.Beside.{apart_at, by_box, by_mismatches, by_width, first_outside, gap, greater_at}
+use Rattle.fd_sweeping.specs.Beside.{greater_mismatches, is_outside_by, ladder_of, radius}
 
 -- ---- what the record says
 
@@ -78,8 +80,10 @@ within_half Magnitude half apart free h = ltb-false half apart h
 away_is : (a b : ℤ) → nat_abs (a -ℤ (pos 1 *ℤ b)) ≡ nat_abs (a -ℤ b)
 away_is a b = let same : pos 1 *ℤ b ≡ b = omega (arith, ints) in ap (λ z. nat_abs (a -ℤ z)) same
 
-module _ (widening : WideningLaw) (agreement : AgreementLaw) (v : NetworkView) (m : Claim) (net : IsNetwork v) (sound : IsSound v m)
-    (x : List ℤ) (point : IsPoint v x) (layout : LayoutView) (sweeps k g r : ℕ) (so : SaysSo v m x layout sweeps k g r) where
+module _ (widening : WideningLaw) (agreement : AgreementLaw) (v : NetworkView) (m : Claim) (net : IsNetwork v)
+    (sound : IsSound v m)
+    (x : List ℤ) (point : IsPoint v x) (layout : LayoutView) (sweeps k g r : ℕ)
+    (so : SaysSo v m x layout sweeps k g r) where
   e : List ℕ
   e = greater_mismatches v m x
 
@@ -88,7 +92,9 @@ module _ (widening : WideningLaw) (agreement : AgreementLaw) (v : NetworkView) (
 
   own_tight : (l : ℕ) → l < v.size → mismatch_at v x l ≤ greatest_mismatch
   unfolding first_loose
-  own_tight l h = ltb-false greatest_mismatch (mismatch_at v x l) (none_holds (λ j. nat_lt greatest_mismatch (mismatch_at v x j)) v.size l so.tight h)
+  own_tight l h =
+      ltb-false greatest_mismatch (mismatch_at v x l)
+      (none_holds (λ j. nat_lt greatest_mismatch (mismatch_at v x j)) v.size l so.tight h)
 
   most : (l : ℕ) → l < v.size → number_at (greater_mismatches v m x) l ≤ greatest_mismatch
   most l h =
@@ -100,7 +106,8 @@ module _ (widening : WideningLaw) (agreement : AgreementLaw) (v : NetworkView) (
   sound_wider =
       widening v m (greater_mismatches v m x) (record { centre = sound.centre; inverse = sound.inverse })
       (record { long = length-list_of v.size (greater_at v m x); most = most })
-      (λ l h. let a = sound.mismatches_least l h in subst (λ n. mismatch_at v m.centre l ≤ n) (sym (read l h)) (omega (arith, a)))
+      (λ l h. let a = sound.mismatches_least l h in subst (λ n. mismatch_at v m.centre l ≤ n) (sym (read l h))
+      (omega (arith, a)))
       so.narrow
 
   box_is : (place : ℕ) → place < v.size → number_at m.boxes place ≡ half_width v m.centre place
@@ -110,7 +117,8 @@ module _ (widening : WideningLaw) (agreement : AgreementLaw) (v : NetworkView) (
   in_box place h free =
       let outside = λ (j : ℕ). is_outside_by (kind_of v j) (number_at m.boxes j) (apart_at x m.centre j) in
       let close : apart_at x m.centre place ≤ number_at m.boxes place =
-      within_half (kind_of v place) (number_at m.boxes place) (apart_at x m.centre place) free (none_holds outside v.size place so.inside h) in
+      within_half (kind_of v place) (number_at m.boxes place) (apart_at x m.centre place) free
+      (none_holds outside v.size place so.inside h) in
       omega (arith, close, away_is (part x place) (part m.centre place), box_is place h)
 
   agreeing : IsAgreeing v (widened v m (greater_mismatches v m x)) x
@@ -142,5 +150,6 @@ module _ (widening : WideningLaw) (agreement : AgreementLaw) (v : NetworkView) (
       omega (arith, all, so.gap_is, so.radius_is)
 
   -- where no mismatch of it is above the printed one
-  pub near_own : ((l : ℕ) → l < v.size → mismatch_at v x l ≤ number_at m.mismatches l) → IsWithinRadii v m.centre m.radii (whole_state x)
+  pub near_own : ((l : ℕ) → l < v.size → mismatch_at v x l ≤ number_at m.mismatches l)
+      → IsWithinRadii v m.centre m.radii (whole_state x)
   near_own least = (agreement v m x net sound (record { point = point; least = least; inside = in_box })).near

@@ -32,17 +32,21 @@ refused_step : (n : ℕ) (left : Applied) (c : CircuitView) (f : Fault) → IsAn
 refused_step n (nothing_left x) c f h = absurd h
 refused_step n (bases_left x) c f h = absurd h
 refused_step n (refused_at place x) c f h = ap (λ (g : Fault). ends [] g) h
-refused_step n (solve_left x) c f h = record { answer = Err h.blame; right = h.right; step_is = ap (λ (g : Fault). ends [] g) h.fault_is }
+refused_step n (solve_left x) c f h =
+    record { answer = Err h.blame; right = h.right; step_is = ap (λ (g : Fault). ends [] g) h.fault_is }
 
 pub swept_answer : (n : ℕ) (left : Applied) (c : CircuitView) (a : Answer) → IsAnswered left c a → IsAnswerOf n left c a
-swept_answer n left c answer.Done h = subst (λ (l : Applied). IsSweepingStepOf n l (changes (sweeping c n))) (sym h) refl
-swept_answer n left c answer.Bases h = subst (λ (l : Applied). IsSweepingStepOf n l (goes (base_events c) (sweeping c n))) (sym h) refl
+swept_answer n left c answer.Done h =
+    subst (λ (l : Applied). IsSweepingStepOf n l (changes (sweeping c n))) (sym h) refl
+swept_answer n left c answer.Bases h =
+    subst (λ (l : Applied). IsSweepingStepOf n l (goes (base_events c) (sweeping c n))) (sym h) refl
 swept_answer n left c (answer.Refuses f) h =
     (refused_step n left c f h, (answer_of left c (answer.Refuses f) h no_positions n).1)
 swept_answer n left c answer.Solves h = (
   h.1,
   λ step is.
-      subst (λ (l : Applied). IsSweepingStepOf n l step) (sym h.0) (record { answer = Ok tt; right = h.1; step_is = is }),
+      subst (λ (l : Applied). IsSweepingStepOf n l step) (sym h.0)
+      (record { answer = Ok tt; right = h.1; step_is = is }),
 )
 
 -- ---- a circuit that is left has room

@@ -8,26 +8,20 @@ use Rattle.fd_solving.specs.dss_script.Said.{ended_by, said_of}
 use Rattle.fd_sweep.specs.fd_ladder.Radial.{first_offending}
 use Rattle.fd_solving.specs.fd_outside.Files.{Files, held}
 use Rattle.fd_solving.specs.fd_report.declared.faults.Cause.TheVariants as cause
-use Rattle.fd_solving.specs.fd_outcome.Behind.{AsksNames}
 use Rattle.fd_solving.specs.fd_outcome.Events.{finishes}
 use Rattle.fd_solving.specs.fd_outcome.Work.{ExactlyOne, ends, goes}
 use Rattle.fd_solving.specs.fd_pages.Bases.{base_events}
 use Rattle.fd_solving.specs.Commands.{Applied, bases_left, nothing_left, refused_at, solve_left, tried}
 use Rattle.fd_solving.specs.Scripts.{IsDoneThere, no_name}
 use Rattle.fd_solving.specs.Steps.{StandingView, changes, refuses}
-use Rattle.fd_solving.proofs.CallerLemmas.{one_solution, test_once, tests_answer}
+use Rattle.fd_solving.proofs.CallerLemmas.{one_with, test_once, tests_answer}
 use Rattle.fd_solving.proofs.CallerLemmas.fd_outcome.{exactly_one_history, exactly_this}
-use Rattle.fd_sweeping.specs.Pages.{ladder_report}
-use Rattle.fd_sweeping.specs.Sweeping.{IsByOrder, IsByTests, IsLadderHistory, IsSweepingStep, IsSweepingStepOf, IsSweptSolve, kept_as, not_radial, snapshot, sweeping}
+use Rattle.fd_sweeping.specs.Pages.{its_sweep}
+use Rattle.fd_sweeping.specs.Sweeping.{IsByOrder, IsByTests, IsLadderHistory, IsSweepingStep, IsSweepingStepOf}
+use Rattle.fd_sweeping.specs.Sweeping.{IsSweptSolve, as_before, not_radial, snapshot, sweeping}
 
 pub one_swept : (c : CircuitView) (n : ℕ) → ExactlyOne (IsSweptSolve c n)
-one_swept c n =
-    let one = one_solution (sweeping (snapshot c) n) in
-    record {
-      some = kept_as c one.some;
-      is = record { solved = one.some; right = one.is; step_is = refl };
-      only = λ step is. is.step_is ∙ ap (kept_as c) (one.only is.solved is.right);
-    }
+one_swept c n = one_with its_sweep (as_before c) (sweeping (snapshot c) n)
 
 pub one_by_order : (c : CircuitView) (n : ℕ) (first : Option ℕ) → ExactlyOne (IsByOrder c n first)
 one_by_order c n None = one_swept c n
@@ -57,9 +51,6 @@ one_sweeping command s = one_of s.settled (tried command s.circuit)
 
 pub one_done : (s : StandingView) (found : Option (List ℕ)) → ExactlyOne (IsDoneThere s found)
 one_done s found = exactly_this (finishes [])
-
-pub ladder_asks : AsksNames ladder_report
-ladder_asks = record { asks = λ n. refl; silent = λ n. refl }
 
 pub one_ladder : (files : Files) (name : List ℕ) → ExactlyOne (λ h. IsLadderHistory files (said_of files name) h)
 one_ladder files name =

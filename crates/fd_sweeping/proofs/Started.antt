@@ -1,5 +1,6 @@
 -- The network of a Solve of `ladder`, and what its sweep is beside a claim.
-use Rattle.std.proofs.Common.{◌≡◌, ◌∙◌, ℕ, ◌*◌, ◌<◌, pos, length, Option, Some, None, Result, Ok, Err, refl, sym, ap, subst, arith}
+use Rattle.std.proofs.Common.{◌≡◌, ◌∙◌, ℕ, ◌*◌, ◌<◌, pos, length, Option, Some, None, Result, Ok, Err, refl, sym, ap}
+use Rattle.std.proofs.Common.{subst, arith}
 use Rattle.std.proofs.lemmas.List.Elements.{All-from_get_or}
 use Rattle.fd_solving.specs.dss_model.declared.command.Blame.{Blame}
 use Rattle.fd_solving.specs.dss_circuit.Circuit.{CircuitView}
@@ -43,7 +44,8 @@ module _ (net : BuiltView) (c : CircuitView) (is : IsBuilt net) (built : IsBuilt
       let size = is.size in
       record { size = sym is.size; nodes = sym nodes; few = omega (arith, nodes, size) }
 
-  pub claimed : (m : Claim) → IsClaimOf (size_of (layout_of c.elements)) m → length m.boxes ≡ size_of (layout_of c.elements)
+  pub claimed : (m : Claim) → IsClaimOf (size_of (layout_of c.elements)) m
+      → length m.boxes ≡ size_of (layout_of c.elements)
       → IsClaimed net.rows m
   claimed m h boxes =
       let size : size_of (layout_of c.elements) ≡ net.rows.size = sym (is.size ∙ ap size_of built.layout) in
@@ -76,7 +78,8 @@ settled_fits c at v most w e = by (first_offending c.elements) w e
 -- ---- at the script's positions
 
 module _ (c : CircuitView) (at before : CodePositions) (powers : Powers) (none : positions_in before ≡ no_positions)
-    (taps : at.taps ≡ next_taps c.solves c.elements before.taps) (closed : at.closed ≡ next_closed c.solves c.elements before.closed)
+    (taps : at.taps ≡ next_taps c.solves c.elements before.taps)
+    (closed : at.closed ≡ next_closed c.solves c.elements before.closed)
     (loads : powers.loads ≡ hour_powers c.elements 0) where
   starts : positions_in at ≡ script_at c
   starts = (λ i. record { taps = taps i; closed = closed i }) ∙ ap (λ (p : Positions). start_from c p) none
@@ -97,7 +100,8 @@ module _ (c : CircuitView) (at before : CodePositions) (powers : Powers) (none :
 
   pub beside_is : (m : Claim) (v : NetworkView) → v ≡ circuit_network c (settings_of at powers)
       → range_blame c.elements (devices_of c (settings_of at powers)) ≡ None
-      → unless_refused (ladder_of (layout_of c.elements) v m) None (sweep_result c at v c.options.maxiterations) ≡ swept_beside c m
+      → unless_refused (ladder_of (layout_of c.elements) v m) None (sweep_result c at v c.options.maxiterations)
+      ≡ swept_beside c m
   beside_is m v rows fine =
       let same = rows ∙ network_is in
       let no_blame = sym fine ∙ blame_is in

@@ -37,7 +37,9 @@ module _ (v : NetworkView) (m : Claim) (x : List ℤ) where
 
   -- the first place at which x lies outside the printed box
   abbrev pub first_outside : Option ℕ
-  first_outside = first_place (λ place. is_outside_by (kind_of v place) (number_at m.boxes place) (apart_at x m.centre place)) v.size
+  first_outside =
+      first_place
+      (λ place. is_outside_by (kind_of v place) (number_at m.boxes place) (apart_at x m.centre place)) v.size
 
   -- the greatest difference between both states, of all parts of voltages
   abbrev pub gap : ℕ
@@ -60,7 +62,8 @@ module _ (v : NetworkView) (m : Claim) (x : List ℤ) where
     by_mismatches (Some row) = ladder.Apart (name_at layout row)
     by_mismatches None = by_box first_outside
 
-    -- a mismatch of x is above the greatest of a solution; or x is outside the box; or a bound reaches one; or both agree
+    -- a mismatch of x is above the greatest of a solution; or x is outside the box; or a bound reaches one; or both
+    -- agree
     abbrev pub beside : Ladder
     beside = by_mismatches (first_loose v x)
 

@@ -23,8 +23,9 @@ use Rattle.fd_solving.specs.fd_outcome.Work.{Step, ends, goes}
 use Rattle.fd_solving.specs.fd_pages.Bases.{base_events}
 use Rattle.fd_solving.specs.Commands.{Applied, IsTested, bases_left, nothing_left, refused_at, solve_left, tried}
 use Rattle.fd_solving.specs.Scripts.{IsDoneThere, no_name}
-use Rattle.fd_solving.specs.Solving.{IsSolutionStep, nameless}
+use Rattle.fd_solving.specs.Solving.{IsSolutionWith, nameless}
 use Rattle.fd_solving.specs.Steps.{StandingView, changes, refuses, standing}
+use Rattle.fd_sweeping.specs.Pages.{its_sweep}
 
 -- between two commands: the circuit, and how many settles there were. What a Solve left at taps and banks is forgotten
 abbrev pub sweeping : CircuitView → ℕ → StandingView
@@ -39,16 +40,12 @@ at_rest o = record o { mode = mode.Snapshot; controlmode = control.Off }
 abbrev pub snapshot : CircuitView → CircuitView
 snapshot c = record c { options = at_rest c.options }
 
--- the circuit is as before, with so many settles as there were then
-abbrev pub kept_as : CircuitView → Step StandingView → Step StandingView
-kept_as c (goes events t) = goes events (sweeping c t.settled)
-kept_as c (ends events f) = ends events f
+-- what its one settle comes to, with its sweep behind it; the circuit is as before
+abbrev pub as_before : CircuitView → StandingView → StandingView
+as_before c t = sweeping c t.settled
 
--- what its one settle comes to
-pub record IsSweptSolve (c : CircuitView) (n : ℕ) (step : Step StandingView) : Type 0 where
-  pub solved : Step StandingView
-  pub right : IsSolutionStep (sweeping (snapshot c) n) solved
-  pub step_is : step ≡ kept_as c solved
+abbrev pub IsSweptSolve : CircuitView → ℕ → Step StandingView → Type 0
+IsSweptSolve c n step = IsSolutionWith its_sweep (as_before c) (sweeping (snapshot c) n) step
 
 -- ---- before it
 
@@ -90,4 +87,5 @@ IsSweepingStep command s step = IsSweepingStepOf s.settled (tried command s.circ
 
 abbrev pub IsLadderHistory : Files → Part → History → Type 0
 IsLadderHistory files p h =
-    IsHistory IsSweepingStep no_name IsDoneThere (λ n. held files (bytes n)) p.said (ended_by p.left) (sweeping empty_circuit 0) h
+    IsHistory IsSweepingStep no_name IsDoneThere (λ n. held files (bytes n)) p.said (ended_by p.left)
+    (sweeping empty_circuit 0) h

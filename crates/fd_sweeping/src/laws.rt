@@ -1,4 +1,4 @@
-// A law of the settles of `ladder`.
+// A law of the settles and sweeps of `ladder`.
 ghost use Rattle.fd_sweeping.specs.SweptLaw.{SweptLaw};
 
 use fd_solving::{
@@ -6,9 +6,9 @@ use fd_solving::{
     solution_law, widening_law,
 };
 
-/// A law: every settle of `ladder` is solved; where its record says that the sweep agrees, the sweep's state meets the
-/// equations within the greater mismatches of both states, lies in the printed box, and is at every place within the
-/// radius that these mismatches give of the printed state. Does nothing.
+/// A law: every settle of `ladder` is solved, and its sweep stands behind it where it ended well; where that says that it
+/// agrees, the sweep's state meets the equations within the greater mismatches of both states, lies in the printed box,
+/// and is at every place within the radius that these mismatches give of the printed state. Does nothing.
 pub fn swept_law()
     ensures { SweptLaw }
 {

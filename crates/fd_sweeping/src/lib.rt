@@ -4,19 +4,17 @@
 //! printed as `solve` does. Beside it Kersting's ladder sweep (`fd_ladder`) finds a state of the radial circuit without an
 //! elimination and without an inverse, and a record says what it comes to: where both states agree, the sweep's meets the
 //! equations within the greater mismatches of both, lies in the printed box, and is within the radius that these
-//! mismatches give (`IsSweptSettle`).
+//! mismatches give (`IsTrueSweep`).
 //!
 //! - `beside`: what a sweep comes to beside a certified state
 //! - `page`: the report of a Solve with its sweep
-//! - `positions`: the positions before a Solve
 //! - `sweeping`: the command line
-//! - `laws`: what a settle that is printed is (`swept_law`)
+//! - `laws`: what the settles and sweeps that are printed are (`swept_law`)
 #![tactic(auto)]
 
 mod beside;
 mod laws;
 mod page;
-mod positions;
 mod sweeping;
 
 pub use laws::swept_law;

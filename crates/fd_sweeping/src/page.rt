@@ -1,25 +1,26 @@
 // The report of a Solve with its sweep.
 ghost use Rattle.std.specs.Prelude.{◌≡◌, All, IfOk, None, length, slice_get};
+ghost use Rattle.std.specs.List.{flat_map};
+ghost use Rattle.fd_solving.specs.dss_circuit.Circuit.{CircuitView};
 ghost use Rattle.fd_solving.specs.dss_layout.Layout.{layout_of, size_of};
 ghost use Rattle.fd_solving.specs.dss_ready.Ready.{HasPassed};
 ghost use Rattle.fd_solving.specs.fd_cert.Claims.{claim_in};
 ghost use Rattle.fd_solving.specs.fd_certfile.Rounds.{IsClaimOf, IsRoundOf};
-ghost use Rattle.fd_solving.specs.fd_outcome.Pages.{solution_in};
+ghost use Rattle.fd_solving.specs.fd_enclosure.Sound.{Claim};
+ghost use Rattle.fd_solving.specs.fd_outcome.Pages.{report_texts, solution_in};
 ghost use Rattle.fd_solving.specs.fd_outside.Emitted.{pieces_of};
 ghost use Rattle.fd_solving.specs.fd_pages.Hours.{rounds_in};
-ghost use Rattle.fd_solving.specs.fd_report.Lines.{lines_of};
 ghost use Rattle.fd_solving.specs.fd_report.Solutions.{IsOfSize};
 ghost use Rattle.fd_solving.specs.fd_network.Built.{IsBuiltOf};
 ghost use Rattle.fd_solving.specs.fd_xfmr.Leakage.{AreTaps};
 ghost use Rattle.fd_sweep.specs.Sweep.{StandsAt, sweep_result};
 ghost use Rattle.fd_sweeping.specs.Beside.{ladder_of};
-ghost use Rattle.fd_sweeping.specs.Pages.{ladder_report, row_of, rows_by, swept_beside, unless_refused};
+ghost use Rattle.fd_sweeping.specs.Pages.{ladder_report, sweep_beside, sweep_event, swept_beside, unless_refused};
 
 use crate::beside::ladder_of;
-use crate::positions::no_positions;
 use fd_solving::{
     BuildFault, Certified, Circuit, Entry, Ladder, Network, Page, Positions, Record, Report,
-    SolvedHour, hours_law, ladder_record, next_law, next_positions, powers_at,
+    SolvedHour, hours_law, ladder_record, next_law, next_positions, no_positions, powers_at,
 };
 use fd_sweep::{LadderFault, sweep};
 use std::alloc::{AllocError, Global};
@@ -84,7 +85,8 @@ fn swept_beside(
 
 // The record of a sweep, where there is one.
 fn sweep_record(alloc: Global, ladder: Option<Ladder>) -> Result<Vec<Record>, AllocError>
-    ensures { IfOk result (λ r. pieces_of r.items ≡ lines_of (row_of ladder)) }
+    ensures { (c : CircuitView) (m : Claim) →
+        IfOk result (λ r. pieces_of r.items ≡ flat_map report_texts (sweep_event c m ladder)) }
 {
     let mut records = Vec::new(alloc);
     if let Some(ladder) = ladder {
@@ -99,7 +101,7 @@ fn sweep_records(alloc: Global, made: &SolvedHour<'_>) -> Result<Vec<Record>, Al
     requires claims { All (IsRoundOf (size_of (layout_of made.now.circuit.now.elements))) made.now.rounds.now }
     requires numbers { All (λ r. IsOfSize (size_of (layout_of made.now.circuit.now.elements)) (solution_in r)) (rounds_in made.now.rounds.now) }
     ensures { IfOk result (λ r. pieces_of r.items
-        ≡ lines_of (rows_by made.now.circuit.now (slice_get (rounds_in made.now.rounds.now) 0))) }
+        ≡ flat_map report_texts (sweep_beside made.now.circuit.now (slice_get (rounds_in made.now.rounds.now) 0))) }
 {
     match made.rounds.first() {
         None => Ok(Vec::new(alloc)),

@@ -9,21 +9,20 @@ ghost use Rattle.fd_solving.specs.dss_script.Sessions.{cost};
 ghost use Rattle.fd_solving.specs.fd_outside.Answers.{AgreesSince};
 ghost use Rattle.fd_solving.specs.fd_outside.Causes.{Rose};
 ghost use Rattle.fd_solving.specs.fd_outside.Files.{Files};
+ghost use Rattle.fd_solving.specs.fd_outcome.Calls.{report};
 ghost use Rattle.fd_solving.specs.fd_outcome.Parts.{EndsAt, GoesOn};
 ghost use Rattle.fd_solving.specs.fd_outcome.Runs.{Runs};
 ghost use Rattle.fd_solving.specs.fd_outcome.Untold.{IsUntold};
 ghost use Rattle.fd_solving.specs.Answered.{IsOfCommand};
 ghost use Rattle.fd_solving.specs.Scripts.{IsDoneThere, no_name};
 ghost use Rattle.fd_solving.specs.Weights.{weight};
-ghost use Rattle.fd_sweeping.specs.Pages.{ladder_report};
 ghost use Rattle.fd_sweeping.specs.Sweeping.{IsByOrder, IsLadderHistory, IsSweepingStep, IsSweptSolve, at_rest, not_radial, sweeping};
 
 use crate::page::LadderReport;
-use crate::positions::no_positions;
 use fd_solving::{
     Answer, Circuit, Class, Command, Compute, ControlMode, ElementName, Fault, Library, Line, Mode,
-    Options, Session, Sink, Tally, Text, WANT_OF_MEMORY, answer_to, print_bases, print_fault,
-    print_last, run_script, said_law, solve_hours,
+    Options, Report, Session, Sink, Tally, Text, WANT_OF_MEMORY, answer_to, no_positions,
+    print_bases, print_fault, print_last, run_script, said_law, solve_hours,
 };
 use fd_sweep::{LadderFault, radial};
 use std::alloc::{AllocError, Global};
@@ -102,11 +101,11 @@ fn solve_at_rest<S: Sink>(
 ) -> Option<u8>
     requires ready { HasPassed circuit.old }
     requires settles { settled.old + 8761 < 2 ^ 32 }
-    ensures goes { result ≡ None → GoesOn ladder_report (IsSweptSolve circuit.old settled.old)
+    ensures goes { result ≡ None → GoesOn report (IsSweptSolve circuit.old settled.old)
         (sweeping circuit.old settled.new) S.taken S.calls out.old out.new begun.old begun.new }
     ensures same { result ≡ None → circuit.new ≡ circuit.old }
     ensures solves { circuit.new.solves ≡ circuit.old.solves }
-    ensures ends { IfSome result (EndsAt ladder_report (IsSweptSolve circuit.old settled.old) S.taken S.calls out.old
+    ensures ends { IfSome result (EndsAt report (IsSweptSolve circuit.old settled.old) S.taken S.calls out.old
         out.new begun.old) }
     ensures settles { settled.new ≤ settled.old + 8761 }
     ensures later { S.faults out.old ≤ S.faults out.new }
@@ -142,12 +141,12 @@ fn solve_radial<S: Sink>(
     requires ready { HasPassed circuit.old }
     requires settles { settled.old + 8761 < 2 ^ 32 }
     ensures goes { result ≡ None
-        → GoesOn ladder_report (IsByOrder circuit.old settled.old (first_offending circuit.old.elements))
+        → GoesOn report (IsByOrder circuit.old settled.old (first_offending circuit.old.elements))
         (sweeping circuit.old settled.new) S.taken S.calls out.old out.new begun.old begun.new }
     ensures same { result ≡ None → circuit.new ≡ circuit.old }
     ensures solves { circuit.new.solves ≡ circuit.old.solves }
     ensures ends { IfSome result
-        (EndsAt ladder_report (IsByOrder circuit.old settled.old (first_offending circuit.old.elements)) S.taken S.calls
+        (EndsAt report (IsByOrder circuit.old settled.old (first_offending circuit.old.elements)) S.taken S.calls
         out.old out.new begun.old) }
     ensures settles { settled.new ≤ settled.old + 8761 }
     ensures later { S.faults out.old ≤ S.faults out.new }
@@ -174,9 +173,9 @@ fn take_command<S: Sink>(
     out: &mut S,
 ) -> Option<u8>
     requires weight { weight sweeping.old.circuit + cost command.now.verb ≤ 1_048_578 }
-    ensures goes { result ≡ None → GoesOn ladder_report (IsSweepingStep command.now sweeping.old) sweeping.new S.taken S.calls
+    ensures goes { result ≡ None → GoesOn report (IsSweepingStep command.now sweeping.old) sweeping.new S.taken S.calls
         out.old out.new begun.old begun.new }
-    ensures ends { IfSome result (λ code. EndsAt ladder_report (IsSweepingStep command.now sweeping.old) S.taken S.calls
+    ensures ends { IfSome result (λ code. EndsAt report (IsSweepingStep command.now sweeping.old) S.taken S.calls
         out.old out.new begun.old code) }
     ensures room { result ≡ None → weight sweeping.new.circuit ≤ weight sweeping.old.circuit + cost command.now.verb }
     ensures later { S.faults out.old ≤ S.faults out.new }
@@ -187,7 +186,7 @@ fn take_command<S: Sink>(
     match answer_to(alloc, &mut sweeping.circuit, command) {
         Ok(Answer::Done) => None,
         Ok(Answer::Refuses(fault)) => Some(print_fault(alloc, &fault, out)),
-        Ok(Answer::Bases) => print_bases::<LadderReport, S>(alloc, &sweeping.circuit, begun, out),
+        Ok(Answer::Bases) => print_bases::<Report, S>(alloc, &sweeping.circuit, begun, out),
         Ok(Answer::Solves) => {
             solve_radial(
                 alloc,
@@ -213,7 +212,7 @@ impl Line for Sweeping {
 
     ghost tells = { false };
 
-    ghost style = { ladder_report };
+    ghost style = { report };
 
     ghost weight = { λ s. weight s.circuit };
 
@@ -236,7 +235,7 @@ impl Line for Sweeping {
         begun: bool,
         out: &mut S,
     ) -> u8 {
-        print_last::<LadderReport, S>(alloc, begun, out)
+        print_last::<Report, S>(alloc, begun, out)
     }
 }
 
@@ -244,7 +243,7 @@ impl Line for Sweeping {
 pub fn ladder<L: Library, S: Sink>(alloc: Global, master: &str, lib: &mut L, out: &mut S) -> u8
     ensures run { (files : Files) → AgreesSince files (L.answers lib.old) (L.answers lib.new) →
         Runs L.answers S.taken S.calls lib.old lib.new out.old out.new
-        (λ h. IsLadderHistory files (said_of files (chars master.now)) h) ladder_report false result }
+        (λ h. IsLadderHistory files (said_of files (chars master.now)) h) report false result }
     ensures untold { IsUntold L.answers L.holds S.faults S.taken S.calls lib.old lib.new out.old out.new result }
 {
     said_law();

@@ -28,7 +28,8 @@ returns-in_default-clause-later g c = later_same g.L.Library.answers g.L.Library
 
 pub returns-in-None-clause-run : goal.returns-in-None-clause-run
 returns-in-None-clause-run g c files agrees =
-    let form : form_of (map string_bytes c.args.words.now) ≡ None = sym c.in-Ok.ensures.form ∙ ap (option_map form_in) c.in-None.is in
+    let form : form_of (map string_bytes c.args.words.now) ≡ None =
+    sym c.in-Ok.ensures.form ∙ ap (option_map form_in) c.in-None.is in
     rw form (fault_alone g.L.Library.answers g.S.Sink.taken g.S.Sink.calls report true
     c.args.lib.now c.args.out.now c.print_fault.new.out fault.Usage c.print_fault.result c.print_fault.ensures.prints)
 

@@ -17,7 +17,9 @@ pub returns : goal.returns
 returns c s at =
     let made = c.args.made.now in
     let size = sym c.size-size.ensures.rows ∙ c.size-size.ensures.layout ∙ ap size_of c.requires.network.layout in
-    let block = same_block made.circuit.now made.number made.hour made.net.now.rows.size c.args.place s c.args.round.now at size in
+    let block =
+    same_block made.circuit.now made.number made.hour made.net.now.rows.size c.args.place s c.args.round.now at
+    size in
     let lines = c.in_ok-lines.ensures.lines ∙ ap block_texts block in
     ap pieces_of c.in_ok-append.ensures.items
     ∙ map-append _ c.args.into.now.items c.in_ok-lines.lines.items

@@ -5,14 +5,15 @@ use Rattle.std.specs.Option.{option_map}
 use Rattle.std.proofs.lemmas.Option.{slice_get_past, slice_get_read}
 use Rattle.fd_outcome.specs.fd_outside.Emitted.{pieces_of}
 use Rattle.fd_outcome.specs.fd_report.Lines.{lines_of}
-use Rattle.fd_pages.specs.Pending.{pending_rows_by}
+use Rattle.fd_outcome.specs.Pages.{pending_rows_by}
 use Rattle.fd_pages.proofs.Recorded.{control_at, is_found, no_control, no_rows}
 use Rattle.fd_pages.proofs.pending.add_pending.Goals as goal
 
 pub unwrap-requires : goal.unwrap-requires
 unwrap-requires c =
     let look = c.in-Some.ensures.lookup in
-    let at = slice_get_read c.args.controls.now (length c.args.controls.now) c.args.entry.now.control c.in-Some.place.now refl look.3.0 look.1 in
+    let at = slice_get_read c.args.controls.now
+    (length c.args.controls.now) c.args.entry.now.control c.in-Some.place.now refl look.3.0 look.1 in
     let entries = c.as_slice-entries.ensures.entries ∙ c.elements.ensures.entries in
     is_found c.args.circuit.now.elements c.args.controls.now c.args.entry.now.control c.in-Some.place.now deref_pair _
     c.requires.controls at (c.get_index.ensures.entry ∙ ap (λ es. slice_get es c.in-Some.place.now) entries)
@@ -27,10 +28,15 @@ returns-in-None-clause-rows c =
 pub returns-in-Some-clause-rows : goal.returns-in-Some-clause-rows
 returns-in-Some-clause-rows c =
     let look = c.in-Some.ensures.lookup in
-    let at = slice_get_read c.args.controls.now (length c.args.controls.now) c.args.entry.now.control c.in-Some.place.now refl look.3.0 look.1 in
+    let at = slice_get_read c.args.controls.now
+    (length c.args.controls.now) c.args.entry.now.control c.in-Some.place.now refl look.3.0 look.1 in
     let entries = c.as_slice-entries.ensures.entries ∙ c.elements.ensures.entries in
-    let here = ap (λ es. slice_get es c.in-Some.place.now) (sym entries) ∙ sym c.get_index.ensures.entry ∙ ap (option_map deref_pair) c.unwrap.ensures in
-    let control = control_at c.args.circuit.now.elements c.args.controls.now c.args.entry.now.control c.in-Some.place.now c.requires.controls at ∙ here in
+    let here =
+    ap (λ es. slice_get es c.in-Some.place.now) (sym entries) ∙ sym c.get_index.ensures.entry
+    ∙ ap (option_map deref_pair) c.unwrap.ensures in
+    let control =
+    control_at c.args.circuit.now.elements c.args.controls.now c.args.entry.now.control c.in-Some.place.now
+    c.requires.controls at ∙ here in
     subst (λ o.
     OnOk c.push_pending.result (pieces_of c.push_pending.new.into.items
     ≡ pieces_of c.args.into.now.items ++ lines_of (pending_rows_by o c.args.entry.now)))

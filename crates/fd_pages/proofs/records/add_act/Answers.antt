@@ -13,7 +13,8 @@ use Rattle.fd_pages.proofs.records.add_act.Goals as goal
 pub unwrap-requires : goal.unwrap-requires
 unwrap-requires c =
     let look = c.in-Some.ensures.lookup in
-    let at = slice_get_read c.args.controls.now (length c.args.controls.now) c.args.act.now.control c.in-Some.place.now refl look.3.0 look.1 in
+    let at = slice_get_read c.args.controls.now
+    (length c.args.controls.now) c.args.act.now.control c.in-Some.place.now refl look.3.0 look.1 in
     let entries = c.as_slice-entries.ensures.entries ∙ c.elements.ensures.entries in
     is_found c.args.circuit.now.elements c.args.controls.now c.args.act.now.control c.in-Some.place.now deref_pair _
     c.requires.controls at (c.get_index.ensures.entry ∙ ap (λ es. slice_get es c.in-Some.place.now) entries)
@@ -28,10 +29,15 @@ returns-in-None-clause-rows c =
 pub returns-in-Some-clause-rows : goal.returns-in-Some-clause-rows
 returns-in-Some-clause-rows c =
     let look = c.in-Some.ensures.lookup in
-    let at = slice_get_read c.args.controls.now (length c.args.controls.now) c.args.act.now.control c.in-Some.place.now refl look.3.0 look.1 in
+    let at = slice_get_read c.args.controls.now
+    (length c.args.controls.now) c.args.act.now.control c.in-Some.place.now refl look.3.0 look.1 in
     let entries = c.as_slice-entries.ensures.entries ∙ c.elements.ensures.entries in
-    let here = ap (λ es. slice_get es c.in-Some.place.now) (sym entries) ∙ sym c.get_index.ensures.entry ∙ ap (option_map deref_pair) c.unwrap.ensures in
-    let control = control_at c.args.circuit.now.elements c.args.controls.now c.args.act.now.control c.in-Some.place.now c.requires.controls at ∙ here in
+    let here =
+    ap (λ es. slice_get es c.in-Some.place.now) (sym entries) ∙ sym c.get_index.ensures.entry
+    ∙ ap (option_map deref_pair) c.unwrap.ensures in
+    let control =
+    control_at c.args.circuit.now.elements c.args.controls.now c.args.act.now.control c.in-Some.place.now
+    c.requires.controls at ∙ here in
     subst (λ o.
     OnOk c.push_act.result (pieces_of c.push_act.new.into.items
     ≡ pieces_of c.args.into.now.items ++ lines_of (act_rows_by o (seen c.args.act.now))))

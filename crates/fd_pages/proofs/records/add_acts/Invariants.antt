@@ -9,6 +9,7 @@ abbrev pub invariant-loop-act : goal.invariant-loop-act
 invariant-loop-act l = record {
   writer : IsReady l.writer;
   -- the records so far and those of the acts that are left
-  rows : pieces_of l.into.items ++ lines_of (act_rows (controls_of l.circuit.elements) (map seen (drop l.act-index l.acts)))
+  rows : pieces_of l.into.items
+      ++ lines_of (act_rows (controls_of l.circuit.elements) (map seen (drop l.act-index l.acts)))
       ≡ pieces_of l.fn.into.items ++ lines_of (act_rows (controls_of l.circuit.elements) (map seen l.acts));
 }

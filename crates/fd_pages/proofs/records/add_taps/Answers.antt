@@ -12,14 +12,16 @@ loop-number-preserved c =
     record {
       writer = c.in_ok-add_tap.ensures.writer;
       rows = taps_next (positions_in c.args.at.now) (controls_of es) (probes_of es) c.args.probes.now
-          c.loop-number.number _ _ _ (pieces_of c.loop-number.into.items) _ c.requires.probes c.loop-number-test.true (omega arith)
+          c.loop-number.number _ _ _ (pieces_of c.loop-number.into.items) _ c.requires.probes c.loop-number-test.true
+          (omega arith)
           c.loop-number.invariant.rows c.in_ok-add_tap.ensures.rows;
     }
 
 pub returns-clause-rows : goal.returns-clause-rows
 returns-clause-rows c =
     let es = c.args.circuit.now.elements in
-    let past : length (probes_of es) ≤ c.loop-number.number = subst (λ ps. length ps ≤ c.loop-number.number) c.requires.probes c.loop-number-test.false in
+    let past : length (probes_of es) ≤ c.loop-number.number =
+    subst (λ ps. length ps ≤ c.loop-number.number) c.requires.probes c.loop-number-test.false in
     no_rows (pieces_of c.loop-number.into.items) _
     (taps_end (positions_in c.args.at.now) (controls_of es) (probes_of es) c.loop-number.number past)
     ∙ c.loop-number.invariant.rows

@@ -6,4 +6,5 @@ pub element_records-requires-clause-fits : goal.element_records-requires-clause-
 element_records-requires-clause-fits c =
     let here : slice_get c.args.made.now.circuit.now.elements (c.len-place.result - 1)
     ≡ Some (c.unwrap.result.0.now, c.unwrap.result.1.now) = search rules in
-    buses_fit c.args.made.now.circuit.now c.requires.ready (c.len-place.result - 1) c.unwrap.result.0.now c.unwrap.result.1.now here
+    buses_fit c.args.made.now.circuit.now c.requires.ready
+    (c.len-place.result - 1) c.unwrap.result.0.now c.unwrap.result.1.now here

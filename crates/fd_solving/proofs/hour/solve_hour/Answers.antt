@@ -19,7 +19,8 @@ use Rattle.fd_solving.proofs.hour.solve_hour.Goals as goal
 of_hour : (c : CircuitView) (hour : _) (at : Positions) (now before : Powers) → now ≡ before
     → before.loads ≡ hour_powers c.elements hour → ArePositions c now.loads at
     → ArePositions c (hour_powers c.elements hour) at
-of_hour c hour at now before kept powers h = subst (λ (x : List LoadPower). ArePositions c x at) (ap (λ (p : Powers). p.loads) kept ∙ powers) h
+of_hour c hour at now before kept powers h =
+    subst (λ (x : List LoadPower). ArePositions c x at) (ap (λ (p : Powers). p.loads) kept ∙ powers) h
 
 pub returns-in-Ok-clause-made : goal.returns-in-Ok-clause-made
 returns-in-Ok-clause-made c n number =
@@ -34,9 +35,11 @@ returns-in-Ok-clause-made c n number =
     let made : IsMade circuit (hour_powers circuit.elements hour) m rs (Ok tt) k = record {
       left_is = e.machine;
       ends = e.ends;
-      computed = computed {T = Unit {0}} (limits_of circuit.options) (plant_at circuit hour) c.args.solver.now m rs (Ok tt) new.solver e.acts e.ends e.calls;
+      computed = computed {T = Unit {0}} (limits_of circuit.options) (plant_at circuit hour) c.args.solver.now m rs
+          (Ok tt) new.solver e.acts e.ends e.calls;
       sound = e.sound;
-      positions = of_hour circuit hour (positions_in new.at) new.underway.powers u.powers e.powers c.requires.underway.powers e.positions;
+      positions = of_hour circuit hour
+          (positions_in new.at) new.underway.powers u.powers e.powers c.requires.underway.powers e.positions;
       tried = tt;
     } in
     ended_well circuit hour (kept_in (machine_in c.args.at.now u) n) rs k c.requires.ready
@@ -67,9 +70,12 @@ returns-in_ok-failure-in-Err-clause-made c n number =
       computed = computed {T = Unit {0}} (limits_of circuit.options) (plant_at circuit hour) c.args.solver.now m rs
           (Err c.in-Err.fault) new.solver e.acts e.ends e.calls;
       sound = e.sound;
-      positions = of_hour circuit hour (positions_in new.at) new.underway.powers u.powers e.powers c.requires.underway.powers e.positions;
-      tried = tried_by_calls (limits_of circuit.options) (plant_at circuit hour) c.args.solver.now m rs (Err c.in-Err.fault) new.solver e.calls;
+      positions = of_hour circuit hour
+          (positions_in new.at) new.underway.powers u.powers e.powers c.requires.underway.powers e.positions;
+      tried = tried_by_calls (limits_of circuit.options) (plant_at circuit hour) c.args.solver.now m rs
+          (Err c.in-Err.fault) new.solver e.calls;
     } in
     ended_by_fault circuit hour (kept_in (machine_in c.args.at.now u) n) rs k c.requires.ready
     c.options-options.ensures.in_range.maxcontroliter refl c.in-Err.fault c.in_ok-failure-in-Err.failure
-    made c.in_ok-failure-in-Err.ensures.of_command c.in_ok-failure-in-Err.ensures.tried (c.in_ok-failure-in-Err.ensures.tells hour)
+    made c.in_ok-failure-in-Err.ensures.of_command c.in_ok-failure-in-Err.ensures.tried
+    (c.in_ok-failure-in-Err.ensures.tells hour)

@@ -61,7 +61,9 @@ print_settled-printed-requires-clause-printable g c =
     let rounds = c.deref.result.now in
     let told : IsMadeHour circuit (hour_in day) before c.solve_hour.new.underway.rounds.items None k =
     rw c.in-None.is at (c.in-Ok.ensures.made c.args.settled.now c.requires.settles) in
-    let made = made_as circuit (hour_in day) h before c.solve_hour.new.underway.rounds.items rounds None k same c.deref.ensures.value told in
+    let made =
+    made_as circuit
+    (hour_in day) h before c.solve_hour.new.underway.rounds.items rounds None k same c.deref.ensures.value told in
     made.printable
 
 pub returns-in-Some-clause-ends : goal.returns-in-Some-clause-ends
@@ -78,7 +80,8 @@ returns-in-Some-clause-ends g c =
     rw c.in-Some.is at (c.in-Ok.ensures.made c.args.settled.now c.requires.settles) in
     let made = made_as circuit (hour_in day) h before c.solve_hour.new.underway.rounds.items rounds
     (Some c.in-Some.failure) k same c.deref.ensures.value told in
-    let x = settle_made circuit h (begun_by circuit h before) rounds (end_by (Some c.in-Some.failure)) (positions_in c.solve_hour.new.at) in
+    let x = settle_made circuit h (begun_by circuit h before) rounds (end_by (Some c.in-Some.failure))
+    (positions_in c.solve_hour.new.at) in
     subst (λ (n : ℕ).
     EndsInHour g.P.Page.style g.S.Sink.taken g.S.Sink.calls c.args.out.now c.print_failed.new.out c.args.begun.now
     circuit n before c.print_failed.result)
@@ -136,7 +139,9 @@ returns-then-is_none-clause-goes g c none =
     let rounds = c.deref.result.now in
     let told : IsMadeHour circuit (hour_in day) before c.solve_hour.new.underway.rounds.items None k =
     rw c.in-None.is at (c.in-Ok.ensures.made c.args.settled.now c.requires.settles) in
-    let made = made_as circuit (hour_in day) h before c.solve_hour.new.underway.rounds.items rounds None k same c.deref.ensures.value told in
+    let made =
+    made_as circuit
+    (hour_in day) h before c.solve_hour.new.underway.rounds.items rounds None k same c.deref.ensures.value told in
     let x = settle_made circuit h (begun_by circuit h before) rounds settled (positions_in c.solve_hour.new.at) in
     subst (λ (n : ℕ).
     IsPrintedHour g.P.Page.style g.S.Sink.taken g.S.Sink.calls c.args.out.now c.print_settled-printed.new.out
@@ -145,7 +150,8 @@ returns-then-is_none-clause-goes g c none =
       made = x;
       is = made.is;
       well = refl;
-      wrote = none_goes c.print_settled-printed.result _ none (c.print_settled-printed.ensures.goes (begun_by circuit h before) refl);
+      wrote = none_goes c.print_settled-printed.result _ none
+          (c.print_settled-printed.ensures.goes (begun_by circuit h before) refl);
       begun_is = c.print_settled-printed.ensures.begun (begun_by circuit h before) refl none;
       added = c.add.ensures
           ∙ ap (λ (l : LayoutView). with_rounds c.args.tally.now (complex_count l) (rounds_in rounds))
@@ -163,7 +169,9 @@ add-requires g c =
     let rounds = c.deref.result.now in
     let told : IsMadeHour circuit (hour_in day) before c.solve_hour.new.underway.rounds.items None k =
     rw c.in-None.is at (c.in-Ok.ensures.made c.args.settled.now c.requires.settles) in
-    let made = made_as circuit (hour_in day) h before c.solve_hour.new.underway.rounds.items rounds None k same c.deref.ensures.value told in
+    let made =
+    made_as circuit
+    (hour_in day) h before c.solve_hour.new.underway.rounds.items rounds None k same c.deref.ensures.value told in
     omega (arith, made.printable.few, c.requires.room, c.requires.settles)
 
 pub returns-then-is_none-clause-room : goal.returns-then-is_none-clause-room
@@ -177,8 +185,11 @@ returns-then-is_none-clause-room g c =
     let rounds = c.deref.result.now in
     let told : IsMadeHour circuit (hour_in day) before c.solve_hour.new.underway.rounds.items None k =
     rw c.in-None.is at (c.in-Ok.ensures.made c.args.settled.now c.requires.settles) in
-    let made = made_as circuit (hour_in day) h before c.solve_hour.new.underway.rounds.items rounds None k same c.deref.ensures.value told in
-    let count : c.add.new.self.solutions ≡ c.args.tally.now.solutions + length (rounds_in rounds) = ap (λ (t : Tally). t.solutions) c.add.ensures in
+    let made =
+    made_as circuit
+    (hour_in day) h before c.solve_hour.new.underway.rounds.items rounds None k same c.deref.ensures.value told in
+    let count : c.add.new.self.solutions ≡ c.args.tally.now.solutions + length (rounds_in rounds) =
+    ap (λ (t : Tally). t.solutions) c.add.ensures in
     let long = length-map rounds round_in in
     omega (arith, count, long, made.printable.few, c.requires.room)
 
@@ -193,7 +204,9 @@ returns-else-is_none-clause-ends g c =
     let rounds = c.deref.result.now in
     let told : IsMadeHour circuit (hour_in day) before c.solve_hour.new.underway.rounds.items None k =
     rw c.in-None.is at (c.in-Ok.ensures.made c.args.settled.now c.requires.settles) in
-    let made = made_as circuit (hour_in day) h before c.solve_hour.new.underway.rounds.items rounds None k same c.deref.ensures.value told in
+    let made =
+    made_as circuit
+    (hour_in day) h before c.solve_hour.new.underway.rounds.items rounds None k same c.deref.ensures.value told in
     let x = settle_made circuit h (begun_by circuit h before) rounds settled (positions_in c.solve_hour.new.at) in
     if_some_weaker c.print_settled-printed.result _ _ (λ code cut.
     subst (λ (n : ℕ). EndsInHour g.P.Page.style g.S.Sink.taken g.S.Sink.calls c.args.out.now
@@ -206,14 +219,16 @@ returns-else-is_none-clause-usage g c =
     if_some_weaker c.print_settled-printed.result _ _ (λ code cut.
     cut_never g.S.Sink.taken g.S.Sink.calls 2 c.args.out.now c.print_settled-printed.new.out _ code
     (λ e. omega (arith, e)) (λ e. omega (arith, e)) cut)
-    (c.print_settled-printed.ensures.ends (kept_in (machine_in c.args.at.now c.args.underway.now) c.args.settled.now) refl)
+    (c.print_settled-printed.ensures.ends
+    (kept_in (machine_in c.args.at.now c.args.underway.now) c.args.settled.now) refl)
 
 pub returns-else-is_none-clause-read : goal.returns-else-is_none-clause-read
 returns-else-is_none-clause-read g c =
     if_some_weaker c.print_settled-printed.result _ _ (λ code cut.
     cut_never g.S.Sink.taken g.S.Sink.calls 4 c.args.out.now c.print_settled-printed.new.out _ code
     (λ e. omega (arith, e)) (λ e. omega (arith, e)) cut)
-    (c.print_settled-printed.ensures.ends (kept_in (machine_in c.args.at.now c.args.underway.now) c.args.settled.now) refl)
+    (c.print_settled-printed.ensures.ends
+    (kept_in (machine_in c.args.at.now c.args.underway.now) c.args.settled.now) refl)
 
 pub returns-then-is_none-clause-left : goal.returns-then-is_none-clause-left
 returns-then-is_none-clause-left g c none =

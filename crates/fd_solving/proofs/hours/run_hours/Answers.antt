@@ -1,19 +1,21 @@
 use Rattle.std.specs.Prelude.{◌||◌, is_none, is_some, not}
-use Rattle.std.proofs.Common.{◌≡◌, ◌∙◌, ℕ, Bool, true, false, Option, Some, None, List, length, refl, sym, ap, subst, arith}
+use Rattle.std.proofs.Common.{◌≡◌, ◌∙◌, ℕ, Bool, true, false, Option, Some, None, List, [], ◌∷◌, length, refl, sym, ap}
+use Rattle.std.proofs.Common.{subst, arith}
 use Rattle.fd_daily.specs.Day.{DayView, hour_in, hours_left}
 use Rattle.fd_pages.proofs.CallerLemmas.fd_outcome.{wrote_nothing}
 use Rattle.fd_daily.specs.Underway.{machine_in}
 use Rattle.fd_daily.specs.fd_queue.Machine.{Machine}
 use Rattle.fd_daily.specs.fd_queue.declared.entry.Entry.{Entry}
-use Rattle.fd_pages.specs.Pending.{pending_events}
 use Rattle.fd_pages.specs.fd_outcome.Behind.{behind, has_text}
 use Rattle.fd_pages.specs.fd_outcome.Calls.{body}
+use Rattle.fd_pages.specs.fd_outcome.Events.{waits}
 use Rattle.fd_pages.specs.fd_outcome.Parts.{IsCutIn, Wrote}
 use Rattle.fd_pages.specs.fd_outcome.Way.{whole}
 use Rattle.fd_solving.specs.Answered.{kept_in}
 use Rattle.fd_solving.proofs.Handed.{cut_never}
 use Rattle.fd_daily.proofs.CallerLemmas.{left_hours, next_first, none_left}
-use Rattle.fd_solving.proofs.Hourly.{HourWay, way_done, way_done_cut, way_ended, way_printed, way_range, way_short, way_start}
+use Rattle.fd_solving.proofs.Hourly.{HourWay, way_done, way_done_cut, way_ended, way_printed, way_range, way_short}
+use Rattle.fd_solving.proofs.Hourly.{way_start}
 use Rattle.fd_solving.proofs.Weaker.{if_some_weaker, is_none_by, none_goes}
 use Rattle.fd_solving.proofs.hours.run_hours.Goals as goal
 
@@ -31,7 +33,8 @@ loop-alloc-init g c =
       room = c.requires.room;
       later = omega arith;
       way =
-          way_start g.P.Page.style c.args.circuit.now (hours_left day) (kept_in (machine_in c.args.at.now c.args.underway.now) c.args.settled.now)
+          way_start g.P.Page.style c.args.circuit.now (hours_left day)
+          (kept_in (machine_in c.args.at.now c.args.underway.now) c.args.settled.now)
           g.S.Sink.taken g.S.Sink.calls c.args.out.now c.args.begun.now c.args.tally.now;
     }
 
@@ -94,10 +97,12 @@ returns-then-is_none-clause-goes g c all =
     c.args.tally.now (hours_left after) k c.do_hour-ended.new.out c.do_hour-ended.new.begun c.do_hour-ended.new.tally
     done next c.print_pending.new.out c.print_pending.new.begun
     (subst (λ (es : List Entry). Wrote g.S.Sink.taken g.S.Sink.calls c.do_hour-ended.new.out c.print_pending.new.out
-    (whole (behind g.P.Page.style c.do_hour-ended.new.begun (pending_events circuit es)))) queue
+    (whole (behind g.P.Page.style c.do_hour-ended.new.begun (waits circuit es ∷ [])))) queue
     (none_goes c.print_pending.result _ all c.print_pending.ensures.goes))
     (c.print_pending.ensures.begun all
-    ∙ ap (λ (es : List Entry). (c.do_hour-ended.new.begun || has_text (body g.P.Page.style (pending_events circuit es)))) queue)
+    ∙ ap
+    (λ (es : List Entry).
+    (c.do_hour-ended.new.begun || has_text (body g.P.Page.style (waits circuit es ∷ [])))) queue)
 
 pub returns-then-is_none-clause-ends : goal.returns-then-is_none-clause-ends
 returns-then-is_none-clause-ends g c =
@@ -125,7 +130,7 @@ returns-then-is_none-clause-ends g c =
     c.args.tally.now (hours_left after) k c.do_hour-ended.new.out c.do_hour-ended.new.begun c.do_hour-ended.new.tally
     done next c.print_pending.new.out code
     (subst (λ (es : List Entry). IsCutIn g.S.Sink.taken g.S.Sink.calls c.do_hour-ended.new.out c.print_pending.new.out
-    (behind g.P.Page.style c.do_hour-ended.new.begun (pending_events circuit es)) code) queue cut))
+    (behind g.P.Page.style c.do_hour-ended.new.begun (waits circuit es ∷ [])) code) queue cut))
     c.print_pending.ensures.ends
 
 pub returns-then-is_none-clause-usage : goal.returns-then-is_none-clause-usage
@@ -203,7 +208,8 @@ returns-in-Err-Range-clause-ends g c =
     let told = rw c.in-Err-Range.field-0-is at c.in-Err-Range.ensures.refused in
     way_range g.P.Page.style circuit first l g.S.Sink.taken g.S.Sink.calls c.args.out.now c.args.begun.now
     c.args.tally.now c.law.ensures.silent c.law.ensures.unshown (hours_left after) k c.do_hour-ended.new.out
-    c.do_hour-ended.new.begun c.do_hour-ended.new.tally next c.in-Err-Range.blame told c.print_range.new.out c.print_range.result c.print_range.ensures.prints
+    c.do_hour-ended.new.begun c.do_hour-ended.new.tally next c.in-Err-Range.blame told c.print_range.new.out
+    c.print_range.result c.print_range.ensures.prints
 
 pub returns-in-Err-NoMemory-clause-ends : goal.returns-in-Err-NoMemory-clause-ends
 returns-in-Err-NoMemory-clause-ends g c =

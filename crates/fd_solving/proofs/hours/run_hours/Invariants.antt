@@ -13,7 +13,8 @@ invariant-loop-alloc g l = record {
   room : HasRoom l.tally l.settled;
   later : g.S.Sink.faults l.initial.out ≤ g.S.Sink.faults l.out;
   way : HourWay g.P.Page.style l.circuit (hours_left l.initial.underway.day)
-      (kept_in (machine_in l.initial.at l.initial.underway) l.initial.settled) g.S.Sink.taken g.S.Sink.calls l.initial.out
+      (kept_in
+      (machine_in l.initial.at l.initial.underway) l.initial.settled) g.S.Sink.taken g.S.Sink.calls l.initial.out
       l.initial.begun l.initial.tally (hours_left l.underway.day) (kept_in (machine_in l.at l.underway) l.settled) l.out
       l.begun l.tally;
 }

@@ -15,6 +15,7 @@ returns-in_default-clause-prints g c =
 pub returns-clause-prints : goal.returns-clause-prints
 returns-clause-prints g c =
     let same = ap (λ rs. map writes (pieces_of rs)) c.as_slice.ensures.value ∙ c.in-Ok.ensures in
-    printed_as g.S.Sink.taken g.S.Sink.calls (closes g.P.Page.style.closing) c.args.out.now c.print_end.new.out (map writes (pieces_of c.as_slice.result.now)) _ None c.print_end.result
+    printed_as g.S.Sink.taken g.S.Sink.calls (closes g.P.Page.style.closing) c.args.out.now c.print_end.new.out
+    (map writes (pieces_of c.as_slice.result.now)) _ None c.print_end.result
     same (c.print_end.ensures.prints (closes g.P.Page.style.closing)
     (λ told none. closed g.P.Page.style c.args.begun told (sym same ∙ ap (map writes) none)))

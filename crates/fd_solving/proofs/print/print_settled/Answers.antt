@@ -17,7 +17,8 @@ returns-in_default-clause-ends g c l number = cut_before g.S.Sink.taken g.S.Sink
 
 pub returns-clause-goes : goal.returns-clause-goes
 returns-clause-goes g c l number =
-    let x = settle_made c.args.made.now.circuit.now c.args.made.now.hour l c.args.made.now.rounds.now settled (positions_in c.args.at.now) in
+    let x = settle_made c.args.made.now.circuit.now c.args.made.now.hour l c.args.made.now.rounds.now settled
+    (positions_in c.args.at.now) in
     let texts = pieces_of c.in-Ok.texts.items in
     let same = silent_calls g.P.Page.style c.args.begun.now (settle x ∷ []) texts (c.law.ensures.silent x, tt)
     (texts_alone g.P.Page.style (settle x) texts (c.in-Ok.ensures l number)) in
@@ -27,7 +28,8 @@ returns-clause-goes g c l number =
 
 pub returns-clause-begun : goal.returns-clause-begun
 returns-clause-begun g c l number none =
-    let x = settle_made c.args.made.now.circuit.now c.args.made.now.hour l c.args.made.now.rounds.now settled (positions_in c.args.at.now) in
+    let x = settle_made c.args.made.now.circuit.now c.args.made.now.hour l c.args.made.now.rounds.now settled
+    (positions_in c.args.at.now) in
     let texts = pieces_of c.in-Ok.texts.items in
     c.print_texts.ensures.begun none
     ∙ silent_begun g.P.Page.style c.args.begun.now (settle x ∷ []) texts (c.law.ensures.silent x, tt)
@@ -35,7 +37,8 @@ returns-clause-begun g c l number none =
 
 pub returns-clause-ends : goal.returns-clause-ends
 returns-clause-ends g c l number =
-    let x = settle_made c.args.made.now.circuit.now c.args.made.now.hour l c.args.made.now.rounds.now settled (positions_in c.args.at.now) in
+    let x = settle_made c.args.made.now.circuit.now c.args.made.now.hour l c.args.made.now.rounds.now settled
+    (positions_in c.args.at.now) in
     let texts = pieces_of c.in-Ok.texts.items in
     let same = silent_calls g.P.Page.style c.args.begun.now (settle x ∷ []) texts (c.law.ensures.silent x, tt)
     (texts_alone g.P.Page.style (settle x) texts (c.in-Ok.ensures l number)) in

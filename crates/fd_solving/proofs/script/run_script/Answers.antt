@@ -6,14 +6,18 @@ use Rattle.dss_commands.specs.dss_model.Names.{bytes}
 use Rattle.fd_pages.specs.dss_script.Said.{ScriptEnd, end_in, said_in}
 use Rattle.fd_pages.specs.dss_script.Sessions.{remaining}
 use Rattle.fd_pages.specs.dss_script.declared.fault.SessionFault.TheVariants as session
-use Rattle.fd_pages.proofs.CallerLemmas.fd_outcome.{At, at_start, at_asked, at_command, ends_command, ends_finished, ends_refused, ends_short, ends_unread, gives_next, command_answers, shown_more, shown_nothing, untold_fault, untold_finished, untold_read, untold_refused, untold_short}
+use Rattle.fd_pages.proofs.CallerLemmas.fd_outcome.{At, at_start, at_asked, at_command, ends_command, ends_finished}
+use Rattle.fd_pages.proofs.CallerLemmas.fd_outcome.{ends_refused, ends_short, ends_unread, gives_next, command_answers}
+use Rattle.fd_pages.proofs.CallerLemmas.fd_outcome.{shown_more, shown_nothing, untold_fault, untold_finished}
+use Rattle.fd_pages.proofs.CallerLemmas.fd_outcome.{untold_read, untold_refused, untold_short}
 use Rattle.fd_solving.proofs.script.run_script.Goals as goal
 
 pub loop-command-init : goal.loop-command-init
 loop-command-init g c = record {
   sink = omega arith;
   room = c.requires;
-  shown = shown_nothing g.L.Library.answers g.L.Library.holds g.S.Sink.faults g.S.Sink.taken g.S.Sink.calls c.args.lib.now c.args.out.now;
+  shown = shown_nothing g.L.Library.answers g.L.Library.holds g.S.Sink.faults g.S.Sink.taken g.S.Sink.calls
+      c.args.lib.now c.args.out.now;
   told = λ files told.
       at_start g.T.Line.is_step g.T.Line.last_name g.T.Line.is_last g.T.Line.style g.T.Line.tells
       (λ n. held files (bytes n)) g.L.Library.answers g.S.Sink.taken g.S.Sink.calls _ c.args.lib.now
@@ -22,7 +26,8 @@ loop-command-init g c = record {
 }
 
 pub take-requires : goal.take-requires
-take-requires g c = let paid = rw c.in-Ok-Some.field-0-is at c.in-Ok-Some.ensures.room in omega (arith, c.loop-command.invariant.room, paid)
+take-requires g c = let paid =
+    rw c.in-Ok-Some.field-0-is at c.in-Ok-Some.ensures.room in omega (arith, c.loop-command.invariant.room, paid)
 
 pub returns-in-Some-clause-run : goal.returns-in-Some-clause-run
 returns-in-Some-clause-run g c files told =
@@ -78,11 +83,13 @@ loop-command-preserved g c =
           (c.in-Ok-Some.ensures.asked files told_now) in
           let at = at_asked g.T.Line.is_step g.T.Line.last_name g.T.Line.is_last g.T.Line.style g.T.Line.tells
           (λ n. held files (bytes n)) g.L.Library.answers g.S.Sink.taken g.S.Sink.calls _
-          c.args.lib.now c.args.out.now c.law.ensures.one_step c.law.ensures.one_last c.law.ensures.fits c.law.ensures.told
+          c.args.lib.now c.args.out.now c.law.ensures.one_step c.law.ensures.one_last c.law.ensures.fits
+          c.law.ensures.told
           _ _ _ _ _ _ _ _ (kept.told files told_then) gives.0 in
           let then = at_command g.T.Line.is_step g.T.Line.last_name g.T.Line.is_last g.T.Line.style g.T.Line.tells
           (λ n. held files (bytes n)) g.L.Library.answers g.S.Sink.taken g.S.Sink.calls _
-          c.args.lib.now c.args.out.now c.law.ensures.one_step c.law.ensures.one_last c.law.ensures.fits c.law.ensures.told
+          c.args.lib.now c.args.out.now c.law.ensures.one_step c.law.ensures.one_last c.law.ensures.fits
+          c.law.ensures.told
           _ _ _ _ _ _ _ _ _ _ at (c.in_default.ensures.goes refl) in
           let P : ScriptEnd → Type 0 = λ e.
           At g.T.Line.is_step g.T.Line.last_name g.T.Line.is_last g.T.Line.style g.T.Line.tells
@@ -112,7 +119,8 @@ returns-in-Ok-None-clause-run g c files told =
     (c.in-Ok-None.ensures.asked files told_now) in
     ends_finished g.T.Line.is_step g.T.Line.last_name g.T.Line.is_last g.T.Line.style g.T.Line.tells
     (λ n. held files (bytes n)) g.L.Library.answers g.S.Sink.taken g.S.Sink.calls _ c.args.lib.now
-    c.args.out.now c.law.ensures.one_step c.law.ensures.one_last c.law.ensures.fits c.law.ensures.told _ _ _ _ _ _ _ later.since _ _ _
+    c.args.out.now c.law.ensures.one_step c.law.ensures.one_last c.law.ensures.fits c.law.ensures.told _ _ _ _ _ _ _
+    later.since _ _ _
     (kept.told files told_then) gives later.told
     (c.finish.ensures.told files (agrees_behind g.L.Library.answers g.L.Library.holds files c.args.lib.now
     c.next.new.lib c.finish.new.lib later told))
@@ -140,7 +148,8 @@ returns-in-Err-Script-clause-run g c files told =
     (rw c.in-Err-Script.field-0-is at (c.in-Err-Script.ensures.asked files told_now)) in
     ends_refused g.T.Line.is_step g.T.Line.last_name g.T.Line.is_last g.T.Line.style g.T.Line.tells
     (λ n. held files (bytes n)) g.L.Library.answers g.S.Sink.taken g.S.Sink.calls _ c.args.lib.now
-    c.args.out.now c.law.ensures.one_step c.law.ensures.one_last c.law.ensures.fits c.law.ensures.told _ _ _ _ _ _ _ _ _ _ _
+    c.args.out.now c.law.ensures.one_step c.law.ensures.one_last c.law.ensures.fits c.law.ensures.told _ _ _ _ _ _ _
+    _ _ _ _
     (kept.told files told_then) gives c.print_fault.ensures.prints
 
 pub returns-in-Err-Script-clause-untold : goal.returns-in-Err-Script-clause-untold
@@ -165,7 +174,8 @@ returns-in-Err-Read-clause-run g c files told =
     tt (rw c.in-Err-Read.field-0-is at (c.in-Err-Read.ensures.asked files told_now)) in
     ends_unread g.T.Line.is_step g.T.Line.last_name g.T.Line.is_last g.T.Line.style g.T.Line.tells
     (λ n. held files (bytes n)) g.L.Library.answers g.S.Sink.taken g.S.Sink.calls _ c.args.lib.now
-    c.args.out.now c.law.ensures.one_step c.law.ensures.one_last c.law.ensures.fits c.law.ensures.told _ _ _ _ _ _ _ _ _ _
+    c.args.out.now c.law.ensures.one_step c.law.ensures.one_last c.law.ensures.fits c.law.ensures.told _ _ _ _ _ _ _
+    _ _ _
     (kept.told files told_then) gives c.print_fault-in-Err-Read.ensures.prints
     (failed_behind (g.L.Library.answers c.args.lib.now) (g.L.Library.answers c.loop-command.lib)
     (g.L.Library.answers c.next.new.lib) kept.shown.later.since kept.shown.later.told (bytes c.in-Err-Read.name, last))

@@ -11,7 +11,8 @@ abbrev pub invariant-loop-command : goal.invariant-loop-command
 invariant-loop-command g l = record {
   sink : g.S.Sink.faults l.initial.out ≤ g.S.Sink.faults l.out;
   room : g.T.Line.weight l.line + room l.session ≤ 1_048_578;
-  shown : Shown g.L.Library.answers g.L.Library.holds g.S.Sink.taken g.S.Sink.calls l.initial.lib l.lib l.initial.out l.out;
+  shown : Shown g.L.Library.answers g.L.Library.holds g.S.Sink.taken g.S.Sink.calls l.initial.lib l.lib l.initial.out
+      l.out;
   told : (files : Files) → AgreesSince files (g.L.Library.answers l.initial.lib) (g.L.Library.answers l.lib)
       → At g.T.Line.is_step g.T.Line.last_name g.T.Line.is_last g.T.Line.style g.T.Line.tells
       (λ n. held files (bytes n)) g.L.Library.answers g.S.Sink.taken g.S.Sink.calls (record {

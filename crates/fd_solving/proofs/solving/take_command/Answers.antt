@@ -7,7 +7,9 @@ use Rattle.fd_solving.specs.Commands.{IsStep, tried}
 use Rattle.fd_solving.specs.Solving.{IsSolutionStep}
 use Rattle.fd_solving.specs.Steps.{changes, standing}
 use Rattle.fd_solving.specs.declared.answer.Answer.TheVariants as answer
-use Rattle.fd_solving.proofs.Handed.{answer_of, bases_tally, cut_never, ends_as, ends_cut, ends_refused, ends_without_memory, goes_changed, goes_printed, never_read, never_usage, tallied_as}
+use Rattle.fd_solving.proofs.Handed.{answer_of, bases_tally, cut_never, ends_as, ends_cut, ends_refused}
+use Rattle.fd_solving.proofs.Handed.{ends_without_memory, goes_changed, goes_printed, never_read, never_usage}
+use Rattle.fd_solving.proofs.Handed.{tallied_as}
 use Rattle.fd_solving.proofs.Tests.{one_step}
 use Rattle.fd_solving.proofs.Weaker.{if_some_weaker, none_goes}
 use Rattle.fd_solving.proofs.Weights.{command_takes}
@@ -19,7 +21,8 @@ returns-in-Ok-Done-clause-goes g c none =
     let now = standing c.answer_to.new.circuit at c.standing.inside.settled in
     let told = answer_of (tried c.args.command.now c.standing.inside.circuit) c.answer_to.new.circuit answer.Done
     (rw c.in-Ok-Done.field-0-is at c.in-Ok-Done.ensures.left) in
-    let right = subst (λ s. IsStep c.args.command.now s (changes now)) c.standing.view_is (told at c.standing.inside.settled) in
+    let right =
+    subst (λ s. IsStep c.args.command.now s (changes now)) c.standing.view_is (told at c.standing.inside.settled) in
     goes_changed g.P.Page.style (IsStep c.args.command.now c.args.standing.now) g.S.Sink.taken g.S.Sink.calls now
     c.args.out.now c.args.begun.now c.args.tally.now right
 
@@ -29,7 +32,8 @@ returns-in-Ok-Done-clause-weight g c none =
     let now = standing c.answer_to.new.circuit at c.standing.inside.settled in
     let told = answer_of (tried c.args.command.now c.standing.inside.circuit) c.answer_to.new.circuit answer.Done
     (rw c.in-Ok-Done.field-0-is at c.in-Ok-Done.ensures.left) in
-    let right = subst (λ s. IsStep c.args.command.now s (changes now)) c.standing.view_is (told at c.standing.inside.settled) in
+    let right =
+    subst (λ s. IsStep c.args.command.now s (changes now)) c.standing.view_is (told at c.standing.inside.settled) in
     command_takes c.args.command.now c.args.standing.now now [] right
 
 pub returns-in-Ok-Refuses-clause-ends : goal.returns-in-Ok-Refuses-clause-ends
@@ -55,7 +59,8 @@ returns-in-Ok-Refuses-clause-read g c =
     let told = answer_of (tried c.args.command.now c.standing.inside.circuit) c.answer_to.new.circuit
     (answer.Refuses c.in-Ok-Refuses.fault) (rw c.in-Ok-Refuses.field-0-is at c.in-Ok-Refuses.ensures.left) in
     let is = told (positions_in c.standing.inside.at) c.standing.inside.settled in
-    never_read g.S.Sink.taken g.S.Sink.calls c.args.out.now c.print_fault.new.out _ c.in-Ok-Refuses.fault c.print_fault.result is.1 c.print_fault.ensures.prints
+    never_read g.S.Sink.taken g.S.Sink.calls c.args.out.now c.print_fault.new.out _ c.in-Ok-Refuses.fault
+    c.print_fault.result is.1 c.print_fault.ensures.prints
 
 pub returns-in-Ok-Bases-clause-goes : goal.returns-in-Ok-Bases-clause-goes
 returns-in-Ok-Bases-clause-goes g c none =
@@ -65,7 +70,8 @@ returns-in-Ok-Bases-clause-goes g c none =
     let now = standing circuit at n in
     let told = answer_of (tried c.args.command.now c.standing.inside.circuit) c.answer_to.new.circuit answer.Bases
     (rw c.in-Ok-Bases.field-0-is at c.in-Ok-Bases.ensures.left) in
-    let right = subst (λ s. IsStep c.args.command.now s (goes_step (base_events circuit) now)) c.standing.view_is (told at n) in
+    let right =
+    subst (λ s. IsStep c.args.command.now s (goes_step (base_events circuit) now)) c.standing.view_is (told at n) in
     goes_printed g.P.Page.style (IsStep c.args.command.now c.args.standing.now) g.S.Sink.taken g.S.Sink.calls now
     (base_events circuit) right c.args.out.now c.print_bases.new.out c.args.begun.now
     c.print_bases.new.begun (none_goes c.print_bases.result _ none c.print_bases.ensures.goes)
@@ -79,7 +85,8 @@ returns-in-Ok-Bases-clause-ends g c =
     let now = standing circuit at n in
     let told = answer_of (tried c.args.command.now c.standing.inside.circuit) c.answer_to.new.circuit answer.Bases
     (rw c.in-Ok-Bases.field-0-is at c.in-Ok-Bases.ensures.left) in
-    let right = subst (λ s. IsStep c.args.command.now s (goes_step (base_events circuit) now)) c.standing.view_is (told at n) in
+    let right =
+    subst (λ s. IsStep c.args.command.now s (goes_step (base_events circuit) now)) c.standing.view_is (told at n) in
     if_some_weaker c.print_bases.result _ _ (λ code cut.
     ends_cut g.P.Page.style (IsStep c.args.command.now c.args.standing.now) g.S.Sink.taken g.S.Sink.calls now
     (base_events circuit) right c.args.out.now c.print_bases.new.out c.args.begun.now
@@ -94,7 +101,8 @@ returns-in-Ok-Bases-clause-weight g c none =
     let now = standing circuit at n in
     let told = answer_of (tried c.args.command.now c.standing.inside.circuit) c.answer_to.new.circuit answer.Bases
     (rw c.in-Ok-Bases.field-0-is at c.in-Ok-Bases.ensures.left) in
-    let right = subst (λ s. IsStep c.args.command.now s (goes_step (base_events circuit) now)) c.standing.view_is (told at n) in
+    let right =
+    subst (λ s. IsStep c.args.command.now s (goes_step (base_events circuit) now)) c.standing.view_is (told at n) in
     command_takes c.args.command.now c.args.standing.now now (base_events circuit) right
 
 pub returns-in-Ok-Bases-clause-usage : goal.returns-in-Ok-Bases-clause-usage

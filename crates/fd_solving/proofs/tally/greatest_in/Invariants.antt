@@ -6,4 +6,6 @@ use Rattle.fd_solving.proofs.tally.greatest_in.Given as goal
 
 -- the greatest so far, and of the rounds that are left
 abbrev pub invariant-loop-round : goal.invariant-loop-round
-invariant-loop-round l = fold with_greatest l.greatest (rounds_in (drop l.round-index l.rounds)) ≡ fold with_greatest l.so_far (rounds_in l.rounds)
+invariant-loop-round l =
+    fold with_greatest l.greatest (rounds_in (drop l.round-index l.rounds))
+    ≡ fold with_greatest l.so_far (rounds_in l.rounds)

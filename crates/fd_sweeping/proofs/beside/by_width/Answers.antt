@@ -21,7 +21,8 @@ greatest-requires c =
     let e = greater_mismatches v m c.args.x.now in
     let made = rw c.in-Made.is at (c.in_ok-place.ensures.widened c.args.x.now c.requires.own) in
     let long : length c.deref-in-Made.result.now ≡ v.size =
-    ap length c.deref-in-Made.ensures.value ∙ ap (λ (w : Claim). length w.radii) made.1 ∙ length-radii v m.centre m.inverse e in
+    ap length c.deref-in-Made.ensures.value ∙ ap (λ (w : Claim). length w.radii) made.1
+    ∙ length-radii v m.centre m.inverse e in
     let nodes : length c.nodes.result.now ≡ v.nodes = ap length c.nodes.ensures ∙ c.requires.layout.nodes in
     let few = c.requires.layout.few in
     omega (arith, long, nodes, few)
@@ -36,4 +37,5 @@ returns-in-Made c =
     let gap_is = c.gap.ensures ∙ (λ i. greatest (λ place. apart_at x (c.deref.ensures.value i) place) (2 * nodes i)) in
     let radii = c.deref-in-Made.ensures.value ∙ ap (λ (w : Claim). w.radii) made.1 in
     let radius_is = c.greatest.ensures ∙ (λ i. greatest (λ place. number_at (radii i) place) (2 * nodes i)) in
-    (λ i. ladder.Agrees c.args.sweeps (gap_is i) (radius_is i)) ∙ ap (by_width v m x c.args.layout.now c.args.sweeps) (sym made.0)
+    (λ i. ladder.Agrees c.args.sweeps (gap_is i) (radius_is i))
+    ∙ ap (by_width v m x c.args.layout.now c.args.sweeps) (sym made.0)

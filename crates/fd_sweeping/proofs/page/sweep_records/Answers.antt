@@ -4,7 +4,7 @@ use Rattle.fd_solving.specs.fd_cert.declared.ball.Certified.{Certified}
 use Rattle.fd_solving.specs.fd_outcome.Pages.{solution_in}
 use Rattle.fd_solving.specs.fd_outcome.Settles.{Round}
 use Rattle.fd_solving.specs.fd_report.Solutions.{IsOfSize}
-use Rattle.fd_sweeping.proofs.Paged.{of_first_round}
+use Rattle.fd_solving.proofs.CallerLemmas.{of_first_round}
 use Rattle.fd_sweeping.proofs.page.sweep_records.Goals as goal
 
 pub swept_beside-requires-clause-boxes : goal.swept_beside-requires-clause-boxes

@@ -9,5 +9,7 @@ use Rattle.fd_sweeping.proofs.sweeping.not_radial.Goals as goal
 pub returns-in-None-clause-fault : goal.returns-in-None-clause-fault
 returns-in-None-clause-fault c =
     let name : c.new-in-None.result ≡ [] = c.new-in-None.ensures ∙ ap chars c.new.ensures.bytes ∙ chars-nil in
-    let none = c.in-None.ensures.entry ∙ ap (λ es. slice_get es c.args.number) (c.as_slice.ensures.entries ∙ c.elements.ensures.entries) in
+    let none =
+    c.in-None.ensures.entry ∙ ap (λ es. slice_get es c.args.number)
+    (c.as_slice.ensures.entries ∙ c.elements.ensures.entries) in
     (λ i. fault.NotRadial (record { class = class.RegControl; name = name i })) ∙ ap not_radial_by none

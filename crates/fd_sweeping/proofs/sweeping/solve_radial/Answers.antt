@@ -1,14 +1,15 @@
 use Rattle.std.proofs.Common.{ℕ, [], Option, None, Some, sym, subst}
 use Rattle.fd_sweep.specs.fd_ladder.Radial.{first_offending}
+use Rattle.fd_solving.specs.fd_outcome.Calls.{report}
 use Rattle.fd_solving.specs.fd_outcome.Parts.{EndsAt}
 use Rattle.fd_solving.specs.fd_outcome.Work.{ends}
 use Rattle.fd_solving.specs.fd_report.declared.faults.Fault.{Fault}
 use Rattle.fd_solving.proofs.CallerLemmas.{ends_refused, ends_without_memory, if_some_weaker, never_read, never_usage}
-use Rattle.fd_sweeping.specs.Pages.{ladder_report}
 use Rattle.fd_sweeping.specs.Sweeping.{IsByOrder}
 use Rattle.fd_sweeping.proofs.Only.{one_by_order}
 use Rattle.fd_sweeping.proofs.Stepped.{is_radial, isnt_radial, refused_by_order}
-use Rattle.fd_sweeping.proofs.sweeping.solve_radial.Goals.{in-Ok, in-Err-NotRadial+in-Ok-not_radial, in-Err-NotRadial+in-Err, in-Err-NoMemory}
+use Rattle.fd_sweeping.proofs.sweeping.solve_radial.Goals.{in-Ok, in-Err-NotRadial+in-Ok-not_radial}
+use Rattle.fd_sweeping.proofs.sweeping.solve_radial.Goals.{in-Err-NotRadial+in-Err, in-Err-NoMemory}
 use Rattle.fd_sweeping.proofs.sweeping.solve_radial.Goals as goal
 
 pub returns-clause-ends : goal.returns-clause-ends
@@ -19,19 +20,22 @@ returns-clause-ends g c =
     let begun = c.args.begun.now in
     elim c.match-radial.branch [
       | in-Ok w ↦ rw (w.result-is, w.out-is) (if_some_weaker w.solve_at_rest.result _ _ (λ code h.
-          subst (λ (o : Option ℕ). EndsAt ladder_report (IsByOrder circuit n o) g.S.Sink.taken g.S.Sink.calls old
-          w.solve_at_rest.new.out begun code) (sym (is_radial circuit.elements _ w.in-Ok.ensures)) h) w.solve_at_rest.ensures.ends)
-      | in-Err-NotRadial+in-Ok-not_radial w ↦ rw (w.result-is, w.out-is) (ends_refused ladder_report
-          (IsByOrder circuit n (first_offending circuit.elements)) g.S.Sink.taken g.S.Sink.calls old w.print_fault.new.out begun
+          subst (λ (o : Option ℕ). EndsAt report (IsByOrder circuit n o) g.S.Sink.taken g.S.Sink.calls old
+          w.solve_at_rest.new.out begun code)
+          (sym (is_radial circuit.elements _ w.in-Ok.ensures)) h) w.solve_at_rest.ensures.ends)
+      | in-Err-NotRadial+in-Ok-not_radial w ↦ rw (w.result-is, w.out-is) (ends_refused report
+          (IsByOrder circuit n
+          (first_offending circuit.elements)) g.S.Sink.taken g.S.Sink.calls old w.print_fault.new.out begun
           w.in-Ok-not_radial.fault w.print_fault.result
           (subst (λ (f : Fault). IsByOrder circuit n (first_offending circuit.elements) (ends [] f))
           (sym w.in-Ok-not_radial.ensures.fault)
-          (refused_by_order circuit n _ (isnt_radial circuit.elements _ (rw w.in-Err-NotRadial.field-0-is at w.in-Err-NotRadial.ensures))))
+          (refused_by_order circuit n _
+          (isnt_radial circuit.elements _ (rw w.in-Err-NotRadial.field-0-is at w.in-Err-NotRadial.ensures))))
           w.print_fault.ensures.prints)
-      | in-Err-NotRadial+in-Err w ↦ rw (w.result-is, w.out-is) (ends_without_memory ladder_report
+      | in-Err-NotRadial+in-Err w ↦ rw (w.result-is, w.out-is) (ends_without_memory report
           (IsByOrder circuit n (first_offending circuit.elements)) g.S.Sink.taken g.S.Sink.calls old begun
           (one_by_order circuit n (first_offending circuit.elements)))
-      | in-Err-NoMemory w ↦ rw (w.result-is, w.out-is) (ends_without_memory ladder_report
+      | in-Err-NoMemory w ↦ rw (w.result-is, w.out-is) (ends_without_memory report
           (IsByOrder circuit n (first_offending circuit.elements)) g.S.Sink.taken g.S.Sink.calls old begun
           (one_by_order circuit n (first_offending circuit.elements)))
     ]

@@ -11,8 +11,10 @@ pub returns : goal.returns
 returns c l f number =
     let made = c.args.made.now in
     let rounds = rounds_in made.rounds.now in
-    let s = settle_made made.circuit.now made.hour l made.rounds.now (end_with f c.args.tried) (positions_in c.args._at.now) in
-    let is : IsSettleAt made.circuit.now made.number made.hour s = record { circuit_is = refl; number_is = sym number; hour_is = refl } in
+    let s = settle_made made.circuit.now made.hour l made.rounds.now (end_with f c.args.tried)
+    (positions_in c.args._at.now) in
+    let is : IsSettleAt made.circuit.now made.number made.hour s =
+    record { circuit_is = refl; number_is = sym number; hour_is = refl } in
     c.in_ok-add_last.ensures s is
     ∙ ap (λ (front : List (List ℕ)). front ++ last_texts s (length made.rounds.now) c.args.tried)
     (c.in_ok-add_blocks.ensures s is

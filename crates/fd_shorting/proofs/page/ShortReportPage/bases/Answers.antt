@@ -1,8 +1,10 @@
 use Rattle.std.proofs.Common.{◌∙◌}
 use Rattle.std.proofs.lemmas.Result.{IfOk-weaker}
 use Rattle.fd_solving.specs.fd_bases.Bases.{bases_of}
-use Rattle.fd_shorting.proofs.Paged.{same_bases}
+use Rattle.fd_solving.proofs.CallerLemmas.{bases_with}
+use Rattle.fd_shorting.specs.Pages.{its_phases}
 use Rattle.fd_shorting.proofs.page.ShortReportPage.bases.Goals as goal
 
 pub returns : goal.returns
-returns c = IfOk-weaker c.bases.result _ _ (λ r is. is ∙ same_bases (bases_of c.args.circuit.now)) c.bases.ensures
+returns c =
+    IfOk-weaker c.bases.result _ _ (λ r is. is ∙ bases_with its_phases (bases_of c.args.circuit.now)) c.bases.ensures

@@ -11,4 +11,5 @@ returns-clause-told g c files told =
 pub returns-clause-untold : goal.returns-clause-untold
 returns-clause-untold g c =
     untold_last g.L.Library.answers g.L.Library.holds g.S.Sink.faults g.S.Sink.taken g.S.Sink.calls
-    (closes g.P.Page.style.closing) c.args._lib.now c.args.out.now c.print_last.new.out _ c.print_last.result c.print_last.ensures.prints c.print_last.ensures.write
+    (closes g.P.Page.style.closing) c.args._lib.now c.args.out.now c.print_last.new.out _ c.print_last.result
+    c.print_last.ensures.prints c.print_last.ensures.write

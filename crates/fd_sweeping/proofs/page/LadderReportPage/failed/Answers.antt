@@ -1,12 +1,16 @@
-use Rattle.std.proofs.Common.{◌∙◌, sym}
+use Rattle.std.proofs.Common.{◌∙◌}
 use Rattle.std.proofs.lemmas.Result.{IfOk-weaker}
 use Rattle.fd_solving.specs.fd_pages.Hours.{end_with, settle_made}
 use Rattle.fd_solving.specs.fd_sample.Probes.{positions_in}
+use Rattle.fd_solving.proofs.CallerLemmas.{nothing_beside}
+use Rattle.fd_sweeping.specs.Pages.{its_sweep}
 use Rattle.fd_sweeping.proofs.Paged.{no_sweep}
 use Rattle.fd_sweeping.proofs.page.LadderReportPage.failed.Goals as goal
 
 pub returns : goal.returns
 returns c l f number =
     let made = c.args.made.now in
-    let s = settle_made made.circuit.now made.hour l made.rounds.now (end_with f c.args.tried) (positions_in c.args.at.now) in
-    IfOk-weaker c.failed.result _ _ (λ r is. is ∙ sym (no_sweep s f c.args.tried)) (c.failed.ensures l f number)
+    let s = settle_made made.circuit.now made.hour l made.rounds.now (end_with f c.args.tried)
+    (positions_in c.args.at.now) in
+    IfOk-weaker c.failed.result _ _ (λ r is. is ∙ nothing_beside its_sweep s (no_sweep s f c.args.tried))
+    (c.failed.ensures l f number)
