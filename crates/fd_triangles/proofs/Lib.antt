@@ -1,0 +1,9 @@
+pub mod Sizes
+pub mod Entries
+pub mod Lists
+pub mod Noted
+pub mod Losing
+pub mod Showing
+pub mod Stages
+pub mod Cleared
+pub mod Starting
