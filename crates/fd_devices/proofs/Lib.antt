@@ -16,3 +16,5 @@ pub mod OneKind
 pub mod Reach
 pub mod Keeping
 pub mod Fits
+pub mod Few
+pub mod Equal

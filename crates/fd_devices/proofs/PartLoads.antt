@@ -41,7 +41,7 @@ pub all_concat : {X : Type 0} (P : X → Type 0) (n : ℕ) (f : ℕ → List X) 
 all_concat P zero f h = All-nil P
 all_concat P (suc n) f h = All-append P (concat_below f n) (f n) (all_concat P n f (λ k p. h k (omega arith))) (h n (omega arith))
 
-length-concat : {X : Type 0} (m n : ℕ) (f : ℕ → List X) → ((k : ℕ) → length (f k) ≤ m) → length (concat_below f n) ≤ m * n
+pub length-concat : {X : Type 0} (m n : ℕ) (f : ℕ → List X) → ((k : ℕ) → length (f k) ≤ m) → length (concat_below f n) ≤ m * n
 length-concat m zero f h = omega arith
 length-concat m (suc n) f h =
     let rest = length-concat m n f h in

@@ -1,5 +1,5 @@
 // What is set of a circuit beside its script: positions and powers.
-ghost use Rattle.std.specs.Prelude.{◌≡◌, IfOk};
+ghost use Rattle.std.specs.Prelude.{◌≡◌, ◌↔◌, IfOk, IsTrue};
 ghost use Rattle.fd_devices.specs.Settings.{HasOwn, after, bank_count, own, power_count, settings_in, settings_of, tap_count};
 
 use dss_layout::{Element, Items, TapPair};
@@ -101,6 +101,33 @@ impl<'a> SettingSlices<'a> {
             powers: &self.powers[power_count(element)..],
         }
     }
+
+    /// Whether others are the same.
+    pub fn is_same(&self, other: &SettingSlices) -> bool
+        ensures { IsTrue result ↔ (settings_in self.now ≡ settings_in other.now) }
+    {
+        are_same_taps(self.taps, other.taps)
+            && are_same_states(self.closed, other.closed)
+            && are_same_powers(self.powers, other.powers)
+    }
+}
+
+fn are_same_taps(taps: &[TapPair], others: &[TapPair]) -> bool
+    ensures { IsTrue result ↔ (taps.now ≡ others.now) }
+{
+    taps == others
+}
+
+fn are_same_states(closed: &[bool], others: &[bool]) -> bool
+    ensures { IsTrue result ↔ (closed.now ≡ others.now) }
+{
+    closed == others
+}
+
+fn are_same_powers(powers: &[LoadPower], others: &[LoadPower]) -> bool
+    ensures { IsTrue result ↔ (powers.now ≡ others.now) }
+{
+    powers == others
 }
 
 // How many pairs of taps an element has.
