@@ -43,21 +43,21 @@ pub record IsFewFor (es : Elements) (k : ℕ) (a : StampView) : Type 0 where
   pub loads : length a.loads ≤ list_n (λ e. most_loads e.1) (take k es)
   pub constants : length a.constants ≤ list_n (λ e. most_constants e.1) (take k es)
 
--- what one more element adds fits beside it
-pub record FitsBeside (es : Elements) (a p : StampView) : Type 0 where
-  pub terms : length a.terms + length p.terms ≤ list_n (λ e. most_terms e.1) es
-  pub loads : length a.loads + length p.loads ≤ list_n (λ e. most_loads e.1) es
-  pub constants : length a.constants + length p.constants ≤ list_n (λ e. most_constants e.1) es
+-- what one more element adds at most fits beside it
+pub record LeavesRoom (es : Elements) (e : Element) (a : StampView) : Type 0 where
+  pub terms : length a.terms + most_terms e ≤ list_n (λ x. most_terms x.1) es
+  pub loads : length a.loads + most_loads e ≤ list_n (λ x. most_loads x.1) es
+  pub constants : length a.constants + most_constants e ≤ list_n (λ x. most_constants x.1) es
 
 module _ (es : Elements) (k : ℕ) (e : ElementName × Element) (here : slice_get es k ≡ Some e) where
   pub one_more : (f : ElementName × Element → ℕ) → list_n f (take (k + 1) es) ≡ list_n f (take k es) + f e
   one_more f = ap (list_n f) (take-more es k e here) ∙ list_n-more f (take k es) e
 
-  pub fits_beside : (a p : StampView) → IsFewFor es k a → AreFewOf e.1 p → FitsBeside es a p
-  fits_beside a p h f = record {
-    terms = omega (arith, h.terms, f.terms, one_more (λ x. most_terms x.1), part_within (λ x. most_terms x.1) es (k + 1));
-    loads = omega (arith, h.loads, f.loads, one_more (λ x. most_loads x.1), part_within (λ x. most_loads x.1) es (k + 1));
-    constants = omega (arith, h.constants, f.constants, one_more (λ x. most_constants x.1), part_within (λ x. most_constants x.1) es (k + 1));
+  pub room_left : (a : StampView) → IsFewFor es k a → LeavesRoom es e.1 a
+  room_left a h = record {
+    terms = omega (arith, h.terms, one_more (λ x. most_terms x.1), part_within (λ x. most_terms x.1) es (k + 1));
+    loads = omega (arith, h.loads, one_more (λ x. most_loads x.1), part_within (λ x. most_loads x.1) es (k + 1));
+    constants = omega (arith, h.constants, one_more (λ x. most_constants x.1), part_within (λ x. most_constants x.1) es (k + 1));
   }
 
   few_both : (a p : StampView) → IsFewFor es k a → AreFewOf e.1 p → IsFewFor es (k + 1) (beside a p)

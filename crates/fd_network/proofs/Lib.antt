@@ -1,9 +1,11 @@
 pub mod Apart
 pub mod Assembling
+pub mod Before
 pub mod Building
 pub mod Faulty
 pub mod Filling
 pub mod Sums
+pub mod Standing
 pub mod Taking
 pub mod Walking
 pub mod ReadyNodes

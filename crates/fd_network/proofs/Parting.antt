@@ -11,6 +11,7 @@ use Rattle.fd_equations.specs.fd_pattern.Views.{network_of}
 use Rattle.fd_devices.specs.Devices.{Device, device_stamp, stamp_of_all}
 use Rattle.fd_network.specs.declared.assembly.Parts.{Parts}
 use Rattle.fd_network.specs.declared.extents.Extent.{Extent}
+use Rattle.fd_network.specs.Former.{AreExact}
 use Rattle.fd_network.specs.Stamps.{extent_of, extents_of, parted}
 
 found_again : (ss : List StampView) → parted (map extent_of ss) (joined ss).constants (joined ss).terms (joined ss).loads ≡ ss
@@ -41,6 +42,13 @@ joined_rows ds counts at p same extents stamp =
     let stamps = stamps_again ds p.extents.items p.constants.items p.rows.terms p.rows.loads p.draw extents stamp in
     let whole = stamp ∙ ap joined (sym stamps) in
     λ i. network_of (same i) (whole i)
+
+-- each of these stamps has as much as is said of it
+pub exact_parts : (ds : List Device) (p : Parts) → p.extents.items ≡ extents_of ds
+    → stamp_with p.constants.items p.rows.terms p.rows.loads p.draw ≡ stamp_of_all ds → AreExact p
+exact_parts ds p extents stamp =
+    let stamps = stamps_again ds p.extents.items p.constants.items p.rows.terms p.rows.loads p.draw extents stamp in
+    extents ∙ ap (map extent_of) (sym stamps)
 
 -- how much one more device has
 pub extents_more : (ds : List Device) (d : Device) → extents_of (ds ++ d ∷ []) ≡ extents_of ds ++ extent_of (device_stamp d) ∷ []

@@ -10,7 +10,7 @@ use Rattle.fd_devices.specs.fd_xfmr.Leakage.{AreTaps}
 use Rattle.fd_devices.specs.Building.{IsModest}
 use Rattle.fd_devices.specs.Devices.{Device}
 use Rattle.fd_devices.specs.Scripted.{device_of, devices_from}
-use Rattle.fd_devices.specs.Settings.{AreOwn, Settings, after, bank_count, own, power_count, tap_count}
+use Rattle.fd_devices.specs.Settings.{AreOwn, AreSettings, HasOwn, Settings, after, bank_count, own, power_count, tap_count}
 use Rattle.fd_devices.proofs.CallerLemmas.{first_left}
 use Rattle.fd_devices.specs.Standing.{HasPlace}
 use Rattle.fd_network.specs.Collecting.{AreTakenFrom, IsTakenAt}
@@ -21,17 +21,28 @@ use Rattle.fd_network.specs.Collecting.{AreTakenFrom, IsTakenAt}
 counted : {A : Type 0} (xs : List A) (own others : ℕ) → length xs ≡ own + others → (own ≤ length xs) × (length (drop own xs) ≡ others)
 counted xs own others h = let left = length-drop own xs in (omega arith, omega arith)
 
+-- of the settings of elements those of the first, and those of the others
+pub settings_first : (e : ElementName × Element) (es : Elements) (s : Settings) → AreSettings (e ∷ es) s → HasOwn e.1 s
+settings_first e es s h = record {
+  taps = (counted s.taps (tap_count e.1) _ h.taps).0;
+  closed = (counted s.closed (bank_count e.1) _ h.closed).0;
+  powers = (counted s.powers (power_count e.1) _ h.powers).0;
+}
+
+pub settings_rest : (e : ElementName × Element) (es : Elements) (s : Settings) → AreSettings (e ∷ es) s → AreSettings es (after e.1 s)
+settings_rest e es s h = record {
+  taps = (counted s.taps (tap_count e.1) _ h.taps).1;
+  closed = (counted s.closed (bank_count e.1) _ h.closed).1;
+  powers = (counted s.powers (power_count e.1) _ h.powers).1;
+}
+
 pub first_taken : (layout : LayoutView) (hertz place : ℕ) (e : ElementName × Element) (es : Elements) (s : Settings)
     → AreTakenFrom layout hertz place (e ∷ es) s → IsTakenAt layout hertz place e.1 s
 first_taken layout hertz place e es s h = record {
   frequency = h.frequency;
   known = subst (HasPlace layout) (add-zero place) (h.places 0 (omega arith));
   ready = h.ready.0;
-  own = record {
-    taps = (counted s.taps (tap_count e.1) _ h.settings.taps).0;
-    closed = (counted s.closed (bank_count e.1) _ h.settings.closed).0;
-    powers = (counted s.powers (power_count e.1) _ h.settings.powers).0;
-  };
+  own = settings_first e es s h.settings;
   within = h.within;
   modest = h.modest;
 }
@@ -51,11 +62,7 @@ rest_taken layout hertz place e es s h = record {
   frequency = h.frequency;
   places = λ k low. let at : place + suc k ≡ place + 1 + k = omega arith in subst (HasPlace layout) at (h.places (suc k) (omega arith));
   ready = h.ready.1;
-  settings = record {
-    taps = (counted s.taps (tap_count e.1) _ h.settings.taps).1;
-    closed = (counted s.closed (bank_count e.1) _ h.settings.closed).1;
-    powers = (counted s.powers (power_count e.1) _ h.settings.powers).1;
-  };
+  settings = settings_rest e es s h.settings;
   within = All-drop AreTaps (tap_count e.1) s.taps h.within;
   modest = All-drop IsModest (power_count e.1) s.powers h.modest;
 }

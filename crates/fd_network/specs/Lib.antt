@@ -2,6 +2,7 @@ pub mod Assembled
 pub mod Built
 pub mod Collecting
 pub mod Faults
+pub mod Former
 pub mod Keeping
 pub mod Laws
 pub mod Places

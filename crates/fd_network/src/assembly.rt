@@ -1,6 +1,7 @@
 // The rows of a network, made of what its elements add.
-ghost use Rattle.std.specs.Prelude.{◌≡◌, ◌*◌, ◌≤◌, ◌^◌, All, IfErr, IfOk, None, OnOk, Some, length};
+ghost use Rattle.std.specs.Prelude.{◌≡◌, ◌*◌, ◌≤◌, ◌^◌, All, IfErr, IfOk, IfSome, None, OnOk, Some, length};
 ghost use Rattle.std.specs.List.{Contains};
+ghost use Rattle.std.specs.Option.{option_map};
 ghost use Rattle.fd_equations.specs.fd_exact.Sums.{list_n};
 ghost use Rattle.dss_ready.specs.dss_layout.Limits.{most_complex, most_magnitudes};
 ghost use Rattle.dss_ready.specs.dss_layout.Layout.{branch_phases, complex_count, size_of};
@@ -15,12 +16,14 @@ ghost use Rattle.fd_network.specs.Assembled.{AreExchanged, CanTake, HaveListsRoo
 ghost use Rattle.fd_devices.specs.Settings.{settings_in};
 ghost use Rattle.fd_network.specs.Collecting.{AreTakenFrom, all_devices};
 ghost use Rattle.fd_network.specs.Faults.{first_out_of_range, first_without};
+ghost use Rattle.fd_network.specs.Former.{AreFormerFrom, former_at, formers_in};
 ghost use Rattle.fd_network.specs.Keeping.{AreKept, Reaches, room_for};
 ghost use Rattle.fd_network.specs.Places.{AreMagnitudesFrom};
 ghost use Rattle.fd_network.specs.Stamps.{extents_of};
 
 use crate::extents::{Extent, Stamps};
 use crate::fault::OutOfRange;
+use crate::former::{Former, StampSlices};
 use crate::room::Room;
 use crate::stamps::{check_sums, collect};
 use dss_ready::{Element, ElementName, Layout};
@@ -46,8 +49,9 @@ pub struct Lists {
     pub one: Stamp,
 }
 
-/// Makes the parts those of the network of elements in a layout, at the circuit's frequency in hertz and with these settings. Takes no
-/// memory. After a refusal the parts are as before.
+/// Makes the parts those of the network of elements in a layout, at the circuit's frequency in hertz and with these settings. Where they
+/// stand at settings already, the stamps of elements that have the same are left as they are. Takes no memory. After a refusal the parts are
+/// as before.
 ///
 /// # Errors
 /// `OutOfRange` with the place of the first element that is out of range by itself, or where there is none of the first with a
@@ -60,6 +64,7 @@ pub fn assemble(
     elements: &IndexMap<ElementName, Element>,
     settings: &SettingSlices,
     kept: &[Kept],
+    before: Option<SettingSlices>,
 ) -> Result<(), OutOfRange>
     requires taken { AreTakenFrom layout.now hertz 0 elements.now.entries (settings_in settings.now) }
     requires magnitudes { AreMagnitudesFrom layout.now (2 * complex_count layout.now) 0 elements.now.entries }
@@ -71,6 +76,7 @@ pub fn assemble(
     requires kept { AreKept layout.now hertz elements.now.entries kept.now }
     requires room { HaveRoom (room_for elements.now.entries) parts.old lists.old }
     requires reaches { Reaches layout.now hertz elements.now.entries parts.old.rows.places }
+    requires before { IfSome before (λ s. AreFormerFrom layout.now hertz 0 elements.now.entries (former_at parts.old s)) }
     ensures network { OnOk result (parts_network layout.now parts.new
         ≡ devices_network layout.now (all_devices layout.now hertz elements.now.entries settings.now)) }
     ensures valid { OnOk result (IsNetwork (parts_network layout.now parts.new)) }
@@ -87,7 +93,8 @@ pub fn assemble(
     ensures room { HaveRoom (room_for elements.now.entries) parts.new lists.new }
 {
     let Lists { stamps, one } = lists;
-    collect(stamps, one, layout, hertz, elements, settings, kept)?;
+    let former = former_of(parts, before);
+    collect(stamps, one, layout, hertz, elements, settings, kept, former)?;
     reach_law();
     exchange(parts, stamps);
     match check_entries(one, layout, hertz, elements, settings, kept, &parts.rows) {
@@ -141,6 +148,24 @@ impl Lists {
             stamps: Stamps::with_room(alloc, room)?,
             one: Stamp::with_room(alloc, 256, 9, 6)?,
         })
+    }
+}
+
+// The stamps in the parts with the settings at which they stand, where these are known.
+fn former_of<'a>(parts: &'a Parts, before: Option<SettingSlices<'a>>) -> Option<Former<'a>>
+    ensures { formers_in result ≡ option_map (former_at parts.now) before.entry }
+{
+    match before {
+        Some(at) => Some(Former {
+            stamps: StampSlices {
+                extents: &parts.extents,
+                constants: &parts.constants,
+                terms: parts.rows.terms(),
+                loads: parts.rows.loads(),
+            },
+            at,
+        }),
+        None => None,
     }
 }
 

@@ -1,5 +1,5 @@
 // The network of a circuit, built.
-ghost use Rattle.std.specs.Prelude.{◌≡◌, ◌<◌, ◌≤◌, All, IfErr, IfOk, IsOk, None, Some, length};
+ghost use Rattle.std.specs.Prelude.{◌≡◌, ◌<◌, ◌≤◌, All, IfErr, IfOk, IfSome, IsOk, None, Some, length};
 ghost use Rattle.std.specs.List.{flat_map};
 ghost use Rattle.dss_ready.specs.dss_layout.Layout.{complex_count, first_too_many, layout_of, size_of};
 ghost use Rattle.dss_ready.specs.dss_layout.Limits.{most_complex, most_magnitudes};
@@ -18,6 +18,7 @@ ghost use Rattle.fd_devices.specs.Settings.{AreSettings, settings_of};
 ghost use Rattle.fd_network.specs.Assembled.{HaveRoom, IsAsBefore, parts_network};
 ghost use Rattle.fd_network.specs.Built.{IsBuilt, IsBuiltOf};
 ghost use Rattle.fd_network.specs.Faults.{IsFaultOf, range_blame};
+ghost use Rattle.fd_network.specs.Former.{AreFormerFrom, former_at};
 ghost use Rattle.fd_network.specs.Keeping.{AreKept, Reaches, room_for};
 ghost use Rattle.fd_network.specs.Stamps.{extents_of};
 
@@ -55,13 +56,15 @@ impl Model for Network {
     ghost use Rattle.fd_devices.specs.Settings.{settings_of};
     ghost use Rattle.fd_network.specs.Assembled.{HaveRoom};
     ghost use Rattle.fd_network.specs.Built.{BuiltView, IsBuilt, built_of};
+    ghost use Rattle.fd_network.specs.Former.{AreExact};
 
     ghost Value = { BuiltView };
 
     ghost view = { λ n. built_of n.layout n.counts n.parts (settings_of n.at n.powers) n.kept.items n.room };
 
     ghost invariant = { λ n. IsBuilt (built_of n.layout n.counts n.parts (settings_of n.at n.powers) n.kept.items n.room)
-        × (n.parts.rows.size ≡ size_of n.layout) × (n.counts ≡ layout_counts n.layout) × HaveRoom n.room n.parts n.lists };
+        × (n.parts.rows.size ≡ size_of n.layout) × (n.counts ≡ layout_counts n.layout) × HaveRoom n.room n.parts n.lists
+        × AreExact n.parts };
 }
 
 impl Network {
@@ -115,8 +118,9 @@ impl Network {
         })
     }
 
-    /// Makes the network of a circuit with other positions or powers what `build` gives for them. Takes no memory but for the name of the
-    /// element to blame. After a refusal it is as before.
+    /// Makes the network of a circuit with other positions or powers what `build` gives for them. The stamps of elements that have the
+    /// taps, state and powers that they had are left as they are. Takes no memory but for the name of the element to blame. After a
+    /// refusal it is as before.
     ///
     /// # Errors
     /// `Range` exactly where `build` has it. `NoMemory` only there, where the memory for the name is refused.
@@ -142,6 +146,7 @@ impl Network {
         ensures ok { AreInRange (devices_of circuit.now (settings_of at.now powers.now)) → IsOk result }
         ensures as_before { IfErr result (λ f. self.new ≡ self.old) }
     {
+        let before = SettingSlices::of(&self.at, &self.powers);
         let filled = fill(
             &mut self.parts,
             &mut self.lists,
@@ -150,6 +155,7 @@ impl Network {
             circuit,
             at,
             powers,
+            Some(before),
         );
         match filled {
             Ok(()) => {
@@ -262,7 +268,9 @@ fn assembled(
     let room = room_of(circuit.elements());
     let mut parts = Parts::reaching(alloc, layout, places, room)?;
     let mut lists = Lists::with_room(alloc, room)?;
-    fill(&mut parts, &mut lists, layout, &kept, circuit, at, powers)?;
+    fill(
+        &mut parts, &mut lists, layout, &kept, circuit, at, powers, None,
+    )?;
     Ok(Assembly {
         parts,
         kept,
@@ -299,8 +307,8 @@ fn kept_in(
     }
 }
 
-// Makes the parts those of the network of a circuit in its layout. Takes no memory but for the name of the element to blame. After a
-// refusal the parts are as before.
+// Makes the parts those of the network of a circuit in its layout. Where they stand at settings already, the stamps of elements that have
+// the same are left as they are. Takes no memory but for the name of the element to blame. After a refusal the parts are as before.
 fn fill(
     parts: &mut Parts,
     lists: &mut Lists,
@@ -309,6 +317,7 @@ fn fill(
     circuit: &Circuit,
     at: &Positions,
     powers: &Powers,
+    before: Option<SettingSlices>,
 ) -> Result<(), BuildFault>
     requires layout { layout.now ≡ layout_of circuit.now.elements }
     requires ready { HasPassed circuit.now }
@@ -319,6 +328,8 @@ fn fill(
     requires kept { AreKept (layout_of circuit.now.elements) circuit.now.options.defaultbasefrequency circuit.now.elements kept.now }
     requires reach { Reaches (layout_of circuit.now.elements) circuit.now.options.defaultbasefrequency circuit.now.elements parts.old.rows.places }
     requires room { HaveRoom (room_for circuit.now.elements) parts.old lists.old }
+    requires before { IfSome before (λ s. AreFormerFrom (layout_of circuit.now.elements) circuit.now.options.defaultbasefrequency 0
+        circuit.now.elements (former_at parts.old s)) }
     ensures network { IfOk result (λ _. parts_network layout.now parts.new ≡ circuit_network circuit.now (settings_of at.now powers.now)) }
     ensures valid { IfOk result (λ _. IsNetwork (parts_network layout.now parts.new)) }
     ensures agrees { IfOk result (λ _. AgreesWith (parts_network layout.now parts.new).stamp
@@ -336,7 +347,9 @@ fn fill(
     let settings = SettingSlices::of(at, powers);
     let elements = circuit.elements();
     let hertz = circuit.options().defaultbasefrequency;
-    match assemble(parts, lists, layout, hertz, elements, &settings, kept) {
+    match assemble(
+        parts, lists, layout, hertz, elements, &settings, kept, before,
+    ) {
         Ok(()) => Ok(()),
         Err(fault) => Err(blamed(elements, fault.0)),
     }

@@ -1,4 +1,4 @@
-use Rattle.std.proofs.Common.{◌≡◌, ◌∙◌, ℕ, ◌*◌, Some, ap, subst, sym}
+use Rattle.std.proofs.Common.{◌≡◌, ◌∙◌, ℕ, ◌*◌, IfSome, Some, ap, subst, sym}
 use Rattle.dss_ready.specs.dss_layout.Layout.{complex_count}
 use Rattle.fd_devices.specs.fd_system.Contributions.{AreSmall}
 use Rattle.fd_devices.specs.fd_system.Stamps.{stamp_of}
@@ -11,10 +11,17 @@ use Rattle.fd_devices.specs.Scripted.{devices_from, layout_counts}
 use Rattle.fd_devices.specs.Settings.{settings_in}
 use Rattle.fd_devices.specs.Building.{has_small_sums}
 use Rattle.fd_network.specs.Faults.{first_without}
+use Rattle.fd_network.specs.Former.{AreFormerFrom}
 use Rattle.fd_network.proofs.Apart.{apart}
 use Rattle.fd_network.proofs.Assembling.{is_network, sum_first}
 use Rattle.fd_network.proofs.Filling.{can_hold}
+use Rattle.fd_network.proofs.Before.{known_at}
 use Rattle.fd_network.proofs.assembly.assemble.Goals as goal
+
+pub collect-requires-clause-former : goal.collect-requires-clause-former
+collect-requires-clause-former c =
+    let P = AreFormerFrom c.args.layout.now c.args.hertz 0 c.args.elements.now.entries in
+    subst (λ o. IfSome o P) (sym c.former_of-former.ensures) (known_at P c.args.parts.now c.args.before c.requires.before)
 
 pub exchange-requires : goal.exchange-requires
 exchange-requires c =

@@ -14,6 +14,7 @@ use Rattle.dss_ready.proofs.CallerLemmas.dss_layout.{few_complex, few_magnitudes
 use Rattle.fd_network.specs.Places.{AreMagnitudesFrom}
 use Rattle.fd_network.proofs.Apart.{magnitudes_follow}
 use Rattle.fd_network.proofs.Building.{are_taken, fault_named, kept_as, out_of_range_within, reaches_as, same_devices, taken_as}
+use Rattle.fd_network.proofs.Before.{former_as}
 use Rattle.fd_network.proofs.ReadyElements.{few_branches, ready}
 use Rattle.fd_network.proofs.Assembling.{no_fault}
 use Rattle.fd_network.proofs.network.fill.Goals as goal
@@ -106,6 +107,11 @@ pub assemble-requires-clause-reaches : goal.assemble-requires-clause-reaches
 assemble-requires-clause-reaches c =
     reaches_as c.args.layout.now _ c.options.result.now.defaultbasefrequency _ c.elements-elements.result.now.entries _ c.args.parts.now.rows.places
     c.requires.layout (ap (λ (o : Options). o.defaultbasefrequency) c.options.ensures.value) c.elements-elements.ensures.entries c.requires.reach
+
+pub assemble-requires-clause-before : goal.assemble-requires-clause-before
+assemble-requires-clause-before c =
+    former_as c.args.layout.now _ c.options.result.now.defaultbasefrequency _ c.elements-elements.result.now.entries _ c.args.parts.now c.args.before
+    c.requires.layout (ap (λ (o : Options). o.defaultbasefrequency) c.options.ensures.value) c.elements-elements.ensures.entries c.requires.before
 
 pub assemble-requires-clause-room : goal.assemble-requires-clause-room
 assemble-requires-clause-room c =

@@ -8,7 +8,7 @@ use Rattle.fd_devices.specs.Scripted.{devices_of}
 use Rattle.fd_devices.specs.Settings.{AreSettings, Settings, settings_of}
 use Rattle.fd_network.proofs.Assembling.{no_fault}
 use Rattle.fd_network.proofs.Building.{no_blame}
-use Rattle.fd_network.proofs.Parting.{joined_rows, stamps_again}
+use Rattle.fd_network.proofs.Parting.{exact_parts, joined_rows, stamps_again}
 use Rattle.fd_network.proofs.network.Network.build.Goals as goal
 
 pub invariant_of-result : goal.invariant_of-result
@@ -26,6 +26,7 @@ invariant_of-result c =
       c.in_ok-parts.ensures.size,
       counts,
       c.in_ok-parts.ensures.roomy,
+      exact_parts ds parts c.in_ok-parts.ensures.extents (ap (λ (v : NetworkView). v.stamp) c.in_ok-parts.ensures.network),
     )
 
 pub returns-clause-built : goal.returns-clause-built

@@ -1,17 +1,19 @@
 use Rattle.std.proofs.Common.{◌≡◌, ◌∙◌, map, ap, subst, sym}
 use Rattle.dss_ready.specs.dss_layout.Layout.{layout_of}
-use Rattle.fd_devices.specs.fd_system.System.{stamp_with}
+use Rattle.fd_devices.specs.fd_system.System.{joined, stamp_with}
 use Rattle.fd_equations.specs.fd_pattern.Conditions.{IsNetwork}
 use Rattle.fd_equations.specs.fd_pattern.Views.{NetworkView, network_of}
 use Rattle.fd_devices.specs.Devices.{device_stamp}
-use Rattle.fd_devices.specs.Scripted.{devices_of}
+use Rattle.fd_devices.specs.Scripted.{devices_of, layout_counts}
 use Rattle.fd_devices.specs.Settings.{AreSettings, Settings, settings_of}
 use Rattle.fd_network.specs.Assembled.{HaveRoom}
-use Rattle.fd_network.specs.Built.{BuiltView}
+use Rattle.fd_network.specs.Built.{BuiltView, IsBuiltOf}
 use Rattle.fd_network.specs.Keeping.{AreKept, Reaches}
 use Rattle.fd_network.proofs.Assembling.{no_fault}
 use Rattle.fd_network.proofs.Building.{no_blame}
-use Rattle.fd_network.proofs.Parting.{joined_rows, stamps_again}
+use Rattle.fd_network.proofs.Before.{parts_stand}
+use Rattle.fd_network.proofs.Standing.{devices_fit}
+use Rattle.fd_network.proofs.Parting.{exact_parts, joined_rows, stamps_again}
 use Rattle.fd_network.proofs.network.Network.update.Goals as goal
 
 pub fill-filled-requires-clause-reach : goal.fill-filled-requires-clause-reach
@@ -20,6 +22,21 @@ fill-filled-requires-clause-reach c =
     subst (λ (v : BuiltView).
     Reaches (layout_of circuit.elements) circuit.options.defaultbasefrequency circuit.elements v.places)
     (sym c.self.view_is) c.requires.built.reach
+
+pub fill-filled-requires-clause-before : goal.fill-filled-requires-clause-before
+fill-filled-requires-clause-before c =
+    let circuit = c.args.circuit.now in
+    let es = circuit.elements in
+    let layout = layout_of es in
+    let hertz = circuit.options.defaultbasefrequency in
+    let parts = c.self.inside.parts in
+    let s = settings_of c.self.inside.at c.self.inside.powers in
+    let ds = devices_of circuit s in
+    let inv = c.self.invariant in
+    let built = subst (λ v. IsBuiltOf v circuit) (sym c.self.view_is) c.requires.built in
+    let rows = inv.0.rows ∙ ap (λ ss. network_of (layout_counts c.self.inside.layout) (joined ss)) built.stamps in
+    let fits = devices_fit (layout_counts c.self.inside.layout) ds (subst IsNetwork rows inv.0.network) in
+    parts_stand layout hertz es parts c.of-before.result s c.of-before.ensures built.settings inv.4 built.stamps fits
 
 pub invariant_of-self : goal.invariant_of-self
 invariant_of-self c =
@@ -37,6 +54,7 @@ invariant_of-self c =
       inv.2,
       subst (λ r. HaveRoom r parts c.fill-filled.new.lists)
           (sym (ap (λ (v : BuiltView). v.room) c.self.view_is ∙ c.requires.built.room)) c.fill-filled.ensures.room,
+      exact_parts ds parts c.in-Ok.ensures.extents (ap (λ (v : NetworkView). v.stamp) c.in-Ok.ensures.network),
     )
 
 pub returns-in-Ok-clause-built : goal.returns-in-Ok-clause-built
