@@ -1,6 +1,5 @@
 -- A settle that goes on, over any plant.
-use Rattle.std.proofs.Common.{◌≡◌, None, List, [], ◌∷◌, ◌++◌, length, map, drop, Result, Ok, refl, sym, ap, ◌∙◌, subst, append_assoc}
-use Rattle.std.proofs.Math.Seq.{drop-append_seam}
+use Rattle.std.proofs.Common.{◌≡◌, None, List, [], ◌∷◌, ◌++◌, length, map, Result, Ok, refl, sym, ap, ◌∙◌, subst}
 use Rattle.fd_inject.specs.fd_pattern.Views.{NetworkView}
 use Rattle.fd_cert.specs.fd_enclosure.Sound.{Claim}
 use Rattle.fd_cert.specs.Claims.{claim_in}
@@ -13,7 +12,6 @@ use Rattle.fd_settle.specs.Settle.{End, Open, Outcome, Ends, Moves, outcome_of, 
 use Rattle.fd_settle.specs.Plant.{Plant}
 use Rattle.fd_settle.specs.Rounds.{AtEach, acts_in, after_round, claims_in, left_by, seen, settled}
 use Rattle.fd_settle.specs.Calls.{AreCalls, IsLast}
-use Rattle.fd_settle.specs.Contract.{appended}
 
 -- ---- one item more at a settle that is open
 
@@ -163,26 +161,6 @@ round_more gives P p v m rs n w r o u h b k s e a =
       each = subst (λ (cs : List Claim). AtEach P p m cs) claims
           (each_more P p m (claims_in rs) c h.each is_open (subst (λ (q : Machine). P q.at c) machine s));
     }
-
--- ---- what was appended
-
-pub nothing_appended : (old : List Round) → appended old old ≡ []
-nothing_appended [] = refl
-nothing_appended (r ∷ rs) = nothing_appended rs
-
-pub appended_more : (old mid new : List Round) (r : Round) → mid ≡ old ++ appended old mid → new ≡ mid ++ r ∷ []
-    → appended old new ≡ appended old mid ++ r ∷ []
-appended_more old mid new r h e =
-    let whole : new ≡ old ++ (appended old mid ++ r ∷ []) = e ∙ ap (λ (rs : List Round). rs ++ r ∷ []) h ∙ append_assoc old (appended old mid) (r ∷ []) in
-    ap (drop (length old)) whole ∙ drop-append_seam old (appended old mid ++ r ∷ [])
-
-pub kept_more : (old mid new : List Round) (r : Round) → mid ≡ old ++ appended old mid → new ≡ mid ++ r ∷ []
-    → new ≡ old ++ appended old new
-kept_more old mid new r h e =
-    e
-    ∙ ap (λ (rs : List Round). rs ++ r ∷ []) h
-    ∙ append_assoc old (appended old mid) (r ∷ [])
-    ∙ ap (λ (rs : List Round). old ++ rs) (sym (appended_more old mid new r h e))
 
 -- ---- the last call
 

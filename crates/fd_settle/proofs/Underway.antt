@@ -1,5 +1,5 @@
 -- A settle of a circuit: where it is after each round, and what is told of how it ends.
-use Rattle.std.proofs.Common.{append-nil, mul-le-mul, ◌≡◌, ℕ, ◌+◌, ◌*◌, ◌-◌, ◌<◌, ◌≤◌, ◌^◌, inl, inr, None, Some, Option, List, [], ◌∷◌, ◌++◌, length, map, Result, Ok, Err, refl, sym, ap, ◌∙◌, subst, arith}
+use Rattle.std.proofs.Common.{append-nil, append_assoc, mul-le-mul, ◌≡◌, ℕ, ◌+◌, ◌*◌, ◌-◌, ◌<◌, ◌≤◌, ◌^◌, inl, inr, None, Some, Option, List, [], ◌∷◌, ◌++◌, length, map, Result, Ok, Err, refl, sym, ap, ◌∙◌, subst, arith}
 use Rattle.std.proofs.lemmas.List.Elements.{All-from_get_or}
 use Rattle.fd_sample.specs.dss_model.declared.command.Blame.{Blame}
 use Rattle.fd_sample.specs.dss_layout.Layout.{layout_of, size_of}
@@ -37,13 +37,13 @@ use Rattle.fd_settle.specs.declared.round.Round.{Round}
 use Rattle.fd_settle.specs.Sampling.{look_over}
 use Rattle.fd_settle.specs.Settle.{End, Open, Settled, Limited, Undecidable, Outcome, Moves, Settle, outcome_of}
 use Rattle.fd_settle.specs.Plant.{Plant, blame_at, controls_in, network_at, plant_of, setup_of, timing_of}
-use Rattle.fd_settle.specs.Rounds.{AtEach, acts_in, claims_in, left_by, seen}
+use Rattle.fd_settle.specs.Rounds.{AtEach, acts_in, claims_in, left_by, seen, settled}
 use Rattle.fd_settle.specs.Calls.{AreCalls, IsLast}
-use Rattle.fd_settle.specs.Contract.{CallsAs, EndsAs, appended, settled_in}
+use Rattle.fd_settle.specs.Contract.{CallsAs, EndsAs, IsSettled}
 use Rattle.fd_settle.specs.Refused.{refused}
 use Rattle.fd_settle.specs.Start.{ArePositions, IsClock, IsNetworkAt, IsSoundAt}
 use Rattle.fd_settle.specs.Controls.{AreAtWork, AreControls, HasNumbers, IfMoved, TellsActs, end_told, machine_of, probes_in, setup_in, shown}
-use Rattle.fd_settle.proofs.Going.{IsStanding, acts_of, end_of, kept_more, appended_more, last_by, nothing_appended, round_counts, round_more}
+use Rattle.fd_settle.proofs.Going.{IsStanding, acts_of, end_of, last_by, round_counts, round_more}
 
 -- ---- the network at positions
 
@@ -94,13 +94,11 @@ ball_of v m s =
 
 -- ---- what a settle leaves
 
--- The rounds that were appended are those of a settle that is open or ends so, and positions, clock, controls and solver
--- are what it leaves.
+-- The rounds are those of a settle that is open or ends so, and positions, clock, controls and solver are what it leaves.
 pub record IsUnderway {V F : Type 0} (gives : V → NetworkView → Result Claim F → V → Type 0) (c : CircuitView)
-    (powers : List LoadPower) (v : V) (m : Machine) (old new : List Round) (end : End) (at : CodePositions)
+    (powers : List LoadPower) (v : V) (m : Machine) (made : List Round) (end : End) (at : CodePositions)
     (clock : Clock) (controls : Controls) (w : V) : Type 0 where
-  pub kept : new ≡ old ++ appended old new
-  pub stands : IsStanding gives (IsSoundAt c powers) (plant_of c powers) v m (appended old new) end (machine_of at clock controls) w
+  pub stands : IsStanding gives (IsSoundAt c powers) (plant_of c powers) v m made end (machine_of at clock controls) w
   pub now : clock.now ≡ m.now
   pub positions : ArePositions c powers (positions_in at)
   pub clock' : IsClock c clock
@@ -108,23 +106,38 @@ pub record IsUnderway {V F : Type 0} (gives : V → NetworkView → Result Claim
 
 -- before the first round
 pub underway_first : {V F : Type 0} (gives : V → NetworkView → Result Claim F → V → Type 0) (c : CircuitView)
-    (powers : List LoadPower) (v : V) (old new : List Round) (at : CodePositions) (clock : Clock)
-    (controls : Controls)
-    → new ≡ old → ArePositions c powers (positions_in at) → IsClock c clock → AreAtWork c at clock controls
-    → IsUnderway gives c powers v (machine_of at clock controls) old new Open at clock controls v
-underway_first gives c powers v old new at clock controls same positions times work =
-    let m = machine_of at clock controls in
-    let none : appended old new ≡ [] = ap (appended old) same ∙ nothing_appended old in
-    record {
-      kept = same ∙ sym (append-nil old) ∙ ap (λ (rs : List Round). old ++ rs) (sym none);
-      stands = subst (λ (rs : List Round).
-          IsStanding gives (IsSoundAt c powers) (plant_of c powers) v m rs Open m v)
-          (sym none) (record { is_settle = refl; calls = refl; each = tt });
-      now = refl;
-      positions = positions;
-      clock' = times;
-      work = work;
-    }
+    (powers : List LoadPower) (v : V) (at : CodePositions) (clock : Clock) (controls : Controls)
+    → ArePositions c powers (positions_in at) → IsClock c clock → AreAtWork c at clock controls
+    → IsUnderway gives c powers v (machine_of at clock controls) [] Open at clock controls v
+underway_first gives c powers v at clock controls positions times work = record {
+  stands = record { is_settle = refl; calls = refl; each = tt };
+  now = refl;
+  positions = positions;
+  clock' = times;
+  work = work;
+}
+
+-- The rounds that were made are held behind those that were held before, and the settle goes on.
+pub record IsKept {V F K : Type 0} (gives : V → NetworkView → Result Claim F → V → Type 0) (holds : K → List Round → Type 0)
+    (c : CircuitView) (powers : List LoadPower) (v : V) (m : Machine) (old new : K) (at : CodePositions)
+    (clock : Clock) (controls : Controls) (w : V) : Type 0 where
+  pub made : List Round
+  pub kept : (before : List Round) → holds old before → holds new (before ++ made)
+  pub underway : IsUnderway gives c powers v m made Open at clock controls w
+
+-- none is held yet
+pub kept_first : {K : Type 0} (holds : K → List Round → Type 0) (j : K) (before : List Round)
+    → holds j before → holds j (before ++ [])
+kept_first holds j before h = subst (holds j) (sym (append-nil before)) h
+
+-- one more is held
+pub kept_more : {K : Type 0} (holds : K → List Round → Type 0) (old mid room new : K) (made : List Round) (r : Round)
+    → ((before : List Round) → holds old before → holds mid (before ++ made))
+    → ((rounds : List Round) → holds mid rounds → holds room rounds)
+    → ((rounds : List Round) → holds room rounds → holds new (rounds ++ r ∷ []))
+    → (before : List Round) → holds old before → holds new (before ++ (made ++ r ∷ []))
+kept_more holds old mid room new made r kept made_room added before h =
+    subst (holds new) (append_assoc before made (r ∷ [])) (added (before ++ made) (made_room (before ++ made) (kept before h)))
 
 -- ---- a round
 
@@ -289,40 +302,36 @@ calls_refused T gives p v m rs build_fault.NoMemory w h = inl h
 
 -- ---- what `settle` says
 
--- its clauses, in their order
+-- its clauses, in their order, of the rounds that were made
 pub record IsOver {V T F : Type 0} (gives : V → NetworkView → Result Claim F → V → Type 0) (c : CircuitView)
-    (powers : Powers) (m : Machine) (v : V) (old new : List Round) (there : CodePositions)
+    (powers : Powers) (m : Machine) (v : V) (made : List Round) (there : CodePositions)
     (times : Clock) (controls : Controls) (result : Result T (SettleFault F)) (w : V) : Type 0 where
-  pub kept : new ≡ old ++ appended old new
-  pub acts : acts_in (appended old new) ≡ (settled_in c powers m old new).rounds
-  pub machine : machine_of there times controls ≡ (settled_in c powers m old new).machine
+  pub settled : IsSettled gives c powers.loads v w m (machine_of there times controls) result made
   pub now : times.now ≡ m.now
-  pub ends : EndsAs (plant_of c powers.loads) result (settled_in c powers m old new).end (settled_in c powers m old new).machine
-  pub calls : CallsAs gives (plant_of c powers.loads) v m (appended old new) result w
-  pub sound : AtEach (IsSoundAt c powers.loads) (plant_of c powers.loads) m (claims_in (appended old new))
   pub positions : ArePositions c powers.loads (positions_in there)
   pub clock : IsClock c times
   pub work : AreAtWork c there times controls
 
 pub over : {V T F : Type 0} (gives : V → NetworkView → Result Claim F → V → Type 0) (c : CircuitView)
-    (powers : Powers) (m : Machine) (v : V) (old new : List Round) (end : End)
+    (powers : Powers) (m : Machine) (v : V) (made : List Round) (end : End)
     (at : CodePositions) (clock : Clock) (controls : Controls) (result : Result T (SettleFault F)) (u w : V)
-    → IsUnderway gives c powers.loads v m old new end at clock controls u
+    → IsUnderway gives c powers.loads v m made end at clock controls u
     → EndsAs (plant_of c powers.loads) result end (machine_of at clock controls)
-    → CallsAs gives (plant_of c powers.loads) v m (appended old new) result w
-    → IsOver gives c powers m v old new at clock controls result w
-over gives c powers m v old new end at clock controls result u w h e k =
-    let is : settled_in c powers m old new
-    ≡ record { rounds = acts_in (appended old new); end = end; machine = machine_of at clock controls } =
+    → CallsAs gives (plant_of c powers.loads) v m made result w
+    → IsOver gives c powers m v made at clock controls result w
+over gives c powers m v made end at clock controls result u w h e k =
+    let is : settled (plant_of c powers.loads) m made
+    ≡ record { rounds = acts_in made; end = end; machine = machine_of at clock controls } =
     h.stands.is_settle in
     record {
-      kept = h.kept;
-      acts = sym (ap (λ (s : Settle). s.rounds) is);
-      machine = sym (ap (λ (s : Settle). s.machine) is);
+      settled = record {
+        acts = sym (ap (λ (s : Settle). s.rounds) is);
+        machine = sym (ap (λ (s : Settle). s.machine) is);
+        ends = subst (λ (s : Settle). EndsAs (plant_of c powers.loads) result s.end s.machine) (sym is) e;
+        calls = k;
+        sound = h.stands.each;
+      };
       now = h.now;
-      ends = subst (λ (s : Settle). EndsAs (plant_of c powers.loads) result s.end s.machine) (sym is) e;
-      calls = k;
-      sound = h.stands.each;
       positions = h.positions;
       clock = h.clock';
       work = h.work;
@@ -331,18 +340,18 @@ over gives c powers m v old new end at clock controls result u w h e k =
 -- ---- the loop
 
 module _ {V F : Type 0} (gives : V → NetworkView → Result Claim F → V → Type 0) (c : CircuitView) (powers : Powers)
-    (m : Machine) (v : V) (old mid : List Round) (at : CodePositions) (clock : Clock)
+    (m : Machine) (v : V) (made : List Round) (at : CodePositions) (clock : Clock)
     (controls : Controls) (net : BuiltView) (w : V)
-    (h : IsUnderway gives c powers.loads v m old mid Open at clock controls w)
+    (h : IsUnderway gives c powers.loads v m made Open at clock controls w)
     (here : IsNetworkAt c powers.loads (positions_in at) net) where
   -- a round more
   pub underway_more : IsNetwork net.rows
-      → (view : NetworkView) (r : Round) (u : V) (new : List Round) (q : Progress) (to : CodePositions)
+      → (view : NetworkView) (r : Round) (u : V) (q : Progress) (to : CodePositions)
       (then' : Clock) (after : Controls)
       → view ≡ net.rows → gives w view (Ok (claim_in r.certified.value)) u → IsSound view (claim_in r.certified.value)
-      → new ≡ mid ++ r ∷ [] → IsStep at clock controls r.certified.value q r.acts.items to then' after
-      → IsUnderway gives c powers.loads v m old new (end_by q) to then' after u
-  underway_more valid view r u new q to then' after is gave sound more s =
+      → IsStep at clock controls r.certified.value q r.acts.items to then' after
+      → IsUnderway gives c powers.loads v m (made ++ r ∷ []) (end_by q) to then' after u
+  underway_more valid view r u q to then' after is gave sound s =
       let n = machine_of at clock controls in
       let next = machine_of to then' after in
       let same : view ≡ network_at c powers.loads (positions_in at) = is ∙ here.rows in
@@ -351,7 +360,7 @@ module _ {V F : Type 0} (gives : V → NetworkView → Result Claim F → V → 
       let outcome : outcome_of (setup_of c) n (look_over (controls_in c) n.at (claim_in r.certified.value)) ≡ shown q (map seen r.acts.items) next =
       same_round c controls.timing (probes_in controls) controls.limit n (claim_in r.certified.value) (shown q (map seen r.acts.items) next) h.work.timing h.work.probes h.work.limit s.round in
       let stands = round_more gives (IsSoundAt c powers.loads) (plant_of c powers.loads) v m
-      (appended old mid) n w r (shown q (map seen r.acts.items) next) u h.stands here.in_range
+      made n w r (shown q (map seen r.acts.items) next) u h.stands here.in_range
       (subst (λ (x : NetworkView). gives w x (Ok (claim_in r.certified.value)) u) same gave) (record {
         positions = h.positions;
         agrees = here.agrees;
@@ -362,15 +371,12 @@ module _ {V F : Type 0} (gives : V → NetworkView → Result Claim F → V → 
       let keeps = subst (λ k. AreControls k to then' after) long s.keeps in
       let positions = stepped_positions c powers.loads (size_of (layout_of c.elements)) at to then' after h.positions keeps s.taps s.closed in
       record {
-        kept = kept_more old mid new r h.kept more;
-        stands = subst (λ (rs : List Round).
-            IsStanding gives (IsSoundAt c powers.loads) (plant_of c powers.loads) v m rs
-            (end_by q) next u) (sym (appended_more old mid new r h.kept more)) (subst (λ (e : End).
+        stands = subst (λ (e : End).
             IsStanding gives (IsSoundAt c powers.loads) (plant_of c powers.loads) v m
-            (appended old mid ++ r ∷ []) e next u) (end_shown q (map seen r.acts.items) next)
+            (made ++ r ∷ []) e next u) (end_shown q (map seen r.acts.items) next)
             (subst (λ (k : Machine). IsStanding gives (IsSoundAt c powers.loads) (plant_of c powers.loads) v
-            m (appended old mid ++ r ∷ []) (end_of (shown q (map seen r.acts.items) next)) k u)
-            (left_shown q (map seen r.acts.items) next) stands));
+            m (made ++ r ∷ []) (end_of (shown q (map seen r.acts.items) next)) k u)
+            (left_shown q (map seen r.acts.items) next) stands);
         now = s.time ∙ h.now;
         positions = positions;
         clock' = stepped_clock c powers.loads (size_of (layout_of c.elements)) to then' after positions keeps;
@@ -382,60 +388,60 @@ module _ {V F : Type 0} (gives : V → NetworkView → Result Claim F → V → 
         };
       }
 
-  -- the call of which nothing was appended
+  -- the call whose state was not kept
   pub last_call : (view : NetworkView) (answer : Result Claim F) (u : V) → view ≡ net.rows → gives w view answer u
-      → IsLast gives (plant_of c powers.loads) v m (appended old mid) answer u
+      → IsLast gives (plant_of c powers.loads) v m made answer u
   last_call view answer u is gave =
       last_by gives (IsSoundAt c powers.loads) (plant_of c powers.loads) v m
-      (appended old mid) Open (machine_of at clock controls) w answer u h.stands here.in_range
+      made Open (machine_of at clock controls) w answer u h.stands here.in_range
       (subst (λ (x : NetworkView). gives w x answer u) (is ∙ here.rows) gave)
 
   -- the solver answers a fault
   pub over_solver : (view : NetworkView) (f : F) (u : V) → view ≡ net.rows → gives w view (Err f) u
-      → IsOver {T = Unit} gives c powers m v old mid at clock controls (Err (fault.Solver f)) u
+      → IsOver {T = Unit} gives c powers m v made at clock controls (Err (fault.Solver f)) u
   over_solver view f u is gave =
-      over {T = Unit} gives c powers m v old mid Open at clock controls
+      over {T = Unit} gives c powers m v made Open at clock controls
       (Err (fault.Solver f)) w u h refl (last_call view (Err f) u is gave)
 
   -- there is no room for the round
   pub over_memory : (view : NetworkView) (claim : Claim) (u : V) (result : Result Unit (SettleFault F)) → view ≡ net.rows
       → gives w view (Ok claim) u → result ≡ Err fault.NoMemory
-      → IsOver gives c powers m v old mid at clock controls result u
+      → IsOver gives c powers m v made at clock controls result u
   over_memory view claim u result is gave same =
-      over gives c powers m v old mid Open at clock controls result w u h
+      over gives c powers m v made Open at clock controls result w u h
       (subst (λ (x : Result Unit (SettleFault F)).
       EndsAs (plant_of c powers.loads) x Open (machine_of at clock controls)) (sym same) refl)
       (subst (λ (x : Result Unit (SettleFault F)).
-      CallsAs gives (plant_of c powers.loads) v m (appended old mid) x u)
+      CallsAs gives (plant_of c powers.loads) v m made x u)
       (sym same) (inr (record { missing = claim; call = last_call view (Ok claim) u is gave })))
 
 module _ {V F : Type 0} (gives : V → NetworkView → Result Claim F → V → Type 0) (c : CircuitView) (powers : Powers)
-    (m : Machine) (v : V) (old new : List Round) (at : CodePositions) (clock : Clock)
+    (m : Machine) (v : V) (made : List Round) (at : CodePositions) (clock : Clock)
     (controls : Controls) (w : V) where
   -- a round ends the settle
   pub over_told : (q : Progress) (result : Result Unit (SettleFault F)) (acts : List Made)
-      → IsUnderway gives c powers.loads v m old new (end_by q) at clock controls w
+      → IsUnderway gives c powers.loads v m made (end_by q) at clock controls w
       → end_told q ≡ Some result → TellsActs q acts (machine_of at clock controls) →
-      IsOver gives c powers m v old new at clock controls result w
+      IsOver gives c powers m v made at clock controls result w
   over_told q result acts h e t =
-      over gives c powers m v old new (end_by q) at clock controls result w w h
+      over gives c powers m v made (end_by q) at clock controls result w w h
       (ends_told (plant_of c powers.loads) q result acts (machine_of at clock controls) e t)
-      (calls_told gives (plant_of c powers.loads) v m (appended old new) q result w e h.stands.calls)
+      (calls_told gives (plant_of c powers.loads) v m made q result w e h.stands.calls)
 
   -- the network at the positions behind a round is refused
   pub over_refused : (f : BuildFault) (result : Result Unit (SettleFault F))
-      → IsUnderway gives c powers.loads v m old new Open at clock controls w
+      → IsUnderway gives c powers.loads v m made Open at clock controls w
       → IsFaultOf (range_blame c.elements (devices_of c (settings_of at powers))) f → result ≡ Err (refused f) →
-      IsOver gives c powers m v old new at clock controls result w
+      IsOver gives c powers m v made at clock controls result w
   over_refused f result h k same =
       let fault_of = subst (λ (b : Option Blame). IsFaultOf b f) (sym (blame_is c powers at)) k in
-      over gives c powers m v old new Open at clock controls result w w h
+      over gives c powers m v made Open at clock controls result w w h
       (subst (λ (x : Result Unit (SettleFault F)).
       EndsAs (plant_of c powers.loads) x Open (machine_of at clock controls))
       (sym same) (ends_refused Unit F (plant_of c powers.loads) f (machine_of at clock controls) fault_of))
       (subst (λ (x : Result Unit (SettleFault F)).
-      CallsAs gives (plant_of c powers.loads) v m (appended old new) x w)
-      (sym same) (calls_refused Unit gives (plant_of c powers.loads) v m (appended old new) f w
+      CallsAs gives (plant_of c powers.loads) v m made x w)
+      (sym same) (calls_refused Unit gives (plant_of c powers.loads) v m made f w
       h.stands.calls))
 
 -- ---- sequence numbers

@@ -31,7 +31,7 @@ pub record IsLast {V F : Type 0} (gives : V → NetworkView → Result Claim F �
   pub in_range : p.blame (settled p m rounds).machine.at ≡ None
   pub last : gives before (p.network (settled p m rounds).machine.at) answer w
 
--- the same, for some state that was not appended
+-- the same, for some state that was not kept
 pub record IsMissing {V F : Type 0} (gives : V → NetworkView → Result Claim F → V → Type 0) (p : Plant) (v : V)
     (m : Machine) (rounds : List Round) (w : V) : Type 0 where
   pub missing : Claim

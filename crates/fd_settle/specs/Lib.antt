@@ -7,6 +7,7 @@ pub mod KeptRounds
 pub mod Laws
 pub mod Plant
 pub mod Rounds
+pub mod Journals
 pub mod Calls
 pub mod Refused
 pub mod Contract

@@ -12,6 +12,7 @@
 // - `compute`: the solver that computes them; `kept_states`: those that it computed before
 // - `controls`: the controls at work; `state`: one of them, `sampling`, `reacting` and `acting`: what all of them do in a round
 // - `progress`: what a sampling comes to
+// - `journal`: what is kept of rounds: all of them, or their acts alone
 // - `settling`: the settle
 // - `fault`: why it ends
 // - `kept`: what rounds keep of the machine, and when a claim is sound
@@ -24,6 +25,7 @@ mod clock;
 mod compute;
 mod controls;
 mod fault;
+mod journal;
 mod kept;
 mod kept_states;
 mod laws;
@@ -39,6 +41,7 @@ pub use clock::Clock;
 pub use compute::{Compute, ComputeFault, compute_kept};
 pub use controls::Controls;
 pub use fault::SettleFault;
+pub use journal::{ActJournal, Journal};
 pub use kept::{kept_law, kept_rounds_law, sound_at_law};
 pub use kept_states::{KeptState, KeptStates};
 pub use laws::{Sampled, agree_law, computation_law, end_law, history_law, whole_law};

@@ -1,4 +1,4 @@
-use Rattle.std.proofs.Common.{arith, rules, ◌≡◌, ◌++◌, ◌∷◌, [], List, length, Ok, Err, refl, sym, ap, subst, ◌∙◌}
+use Rattle.std.proofs.Common.{arith, ◌≡◌, ◌++◌, ◌∷◌, [], length, Ok, Err, sym, ap, subst, ◌∙◌}
 use Rattle.std.proofs.lemmas.Result.{err_from_is_err_and}
 use Rattle.fd_cert.specs.Claims.{claim_in}
 use Rattle.fd_cert.specs.declared.ball.Certified.{Certified}
@@ -8,15 +8,18 @@ use Rattle.fd_settle.specs.declared.progress.Progress.{Progress}
 use Rattle.fd_settle.specs.declared.round.Round.{Round}
 use Rattle.fd_settle.specs.Contract.{limits_of}
 use Rattle.fd_settle.specs.Controls.{AreControls, HasNumbers, machine_of}
-use Rattle.fd_settle.specs.Settle.{Open}
-use Rattle.fd_settle.proofs.Underway.{IsStep, IsUnderway, ball_of, centre_long, end_by, few_numbers, fewer_left, goes_on, no_end, numbers_kept, over_memory, over_refused, over_solver, over_told, same_step, stepped_positions, underway_first, underway_more, updated}
+use Rattle.fd_settle.proofs.Underway.{IsStep, IsUnderway, kept_first, kept_more, ball_of, centre_long, end_by, few_numbers, fewer_left, goes_on, no_end, numbers_kept, over_memory, over_refused, over_solver, over_told, same_step, stepped_positions, underway_first, underway_more, updated}
 use Rattle.fd_settle.proofs.settling.settle.Goals as goal
 
 pub loop-certified-init : goal.loop-certified-init
 loop-certified-init g c = record {
-  underway = underway_first (λ v. g.V.Solver.gives v (limits_of c.args.circuit.now.options)) c.args.circuit.now
-      c.args.powers.now.loads c.args.solver.now c.args.rounds.now.items c.args.rounds.now.items c.args.at.now
-      c.args.clock.now c.args.controls.now refl c.requires.positions c.requires.clock c.requires.work;
+  journal = record {
+    made = [];
+    kept = kept_first g.K.Journal.holds c.args.rounds.now;
+    underway = underway_first (λ v. g.V.Solver.gives v (limits_of c.args.circuit.now.options)) c.args.circuit.now
+        c.args.powers.now.loads c.args.solver.now c.args.at.now c.args.clock.now c.args.controls.now
+        c.requires.positions c.requires.clock c.requires.work;
+  };
   network = c.requires.network;
   numbers = omega arith;
 }
@@ -25,26 +28,22 @@ pub returns-in-Err : goal.returns-in-Err
 returns-in-Err g c =
     let limits : c.limits_of-limits.result ≡ limits_of c.args.circuit.now.options = c.limits_of-limits.ensures.limits ∙ ap limits_of c.options.ensures.value in
     let gave = subst (λ k. g.V.Solver.gives c.loop-certified.solver k c.rows.result (Err c.in-Err.fault) c.solve.new.self) limits c.in-Err.ensures.gives in
+    let j = c.loop-certified.invariant.journal in
     let o = over_solver (λ v. g.V.Solver.gives v (limits_of c.args.circuit.now.options)) c.args.circuit.now
-    c.args.powers.now (machine_of c.args.at.now c.args.clock.now c.args.controls.now) c.args.solver.now c.args.rounds.now.items
-    c.loop-certified.rounds.items c.loop-certified.at c.loop-certified.clock c.loop-certified.controls
-    c.loop-certified.net c.loop-certified.solver c.loop-certified.invariant.underway
+    c.args.powers.now (machine_of c.args.at.now c.args.clock.now c.args.controls.now) c.args.solver.now j.made
+    c.loop-certified.at c.loop-certified.clock c.loop-certified.controls
+    c.loop-certified.net c.loop-certified.solver j.underway
     c.loop-certified.invariant.network c.rows.result c.in-Err.fault c.solve.new.self c.rows.ensures gave in
     record {
-      kept = o.kept;
-      acts = o.acts;
-      machine = o.machine;
+      settled = record { made = j.made; kept = j.kept; settled = o.settled };
       now = o.now;
-      ends = o.ends;
-      calls = o.calls;
-      sound = o.sound;
       positions = o.positions;
       clock = o.clock;
       work = o.work;
       few = omega (
         arith,
         few_numbers _ c.args.controls.now.queue.next c.loop-certified.at c.loop-certified.clock c.loop-certified.controls
-            c.loop-certified.invariant.underway.work.keeps c.loop-certified.invariant.numbers,
+            c.loop-certified.invariant.journal.underway.work.keeps c.loop-certified.invariant.numbers,
       );
       built = c.loop-certified.invariant.network.built;
     }
@@ -55,34 +54,28 @@ returns-in_err-acts g c =
     let gave = subst (λ k.
     g.V.Solver.gives c.loop-certified.solver k c.rows.result (Ok (claim_in c.in-Ok.certified.value)) c.solve.new.self)
     limits c.in-Ok.ensures.gives in
-    let kept : c.loop-certified.rounds.items ≡ c.room_for_round.new.rounds.items = sym {A = List Round} c.room_for_round.ensures.kept in
-    let here = subst (λ (rs : List Round). IsUnderway (λ v. g.V.Solver.gives v (limits_of c.args.circuit.now.options))
-    c.args.circuit.now c.args.powers.now.loads c.args.solver.now
-    (machine_of c.args.at.now c.args.clock.now c.args.controls.now) c.args.rounds.now.items rs Open c.loop-certified.at
-    c.loop-certified.clock c.loop-certified.controls c.loop-certified.solver)
-    kept c.loop-certified.invariant.underway in
+    let j = c.loop-certified.invariant.journal in
     let p = err_from_is_err_and c.from_residual.result c.from_residual.ensures.1 in
     let o =
     over_memory (λ v. g.V.Solver.gives v (limits_of c.args.circuit.now.options)) c.args.circuit.now c.args.powers.now
-    (machine_of c.args.at.now c.args.clock.now c.args.controls.now) c.args.solver.now c.args.rounds.now.items c.room_for_round.new.rounds.items
+    (machine_of c.args.at.now c.args.clock.now c.args.controls.now) c.args.solver.now j.made
     c.loop-certified.at c.loop-certified.clock c.loop-certified.controls c.loop-certified.net c.loop-certified.solver
-    here c.loop-certified.invariant.network c.rows.result (claim_in c.in-Ok.certified.value) c.solve.new.self
+    j.underway c.loop-certified.invariant.network c.rows.result (claim_in c.in-Ok.certified.value) c.solve.new.self
     c.from_residual.result c.rows.ensures gave (p.1 ∙ ap Err p.2) in
     record {
-      kept = o.kept;
-      acts = o.acts;
-      machine = o.machine;
+      settled = record {
+        made = j.made;
+        kept = λ before h. c.room_for_round.ensures.kept (before ++ j.made) (j.kept before h);
+        settled = o.settled;
+      };
       now = o.now;
-      ends = o.ends;
-      calls = o.calls;
-      sound = o.sound;
       positions = o.positions;
       clock = o.clock;
       work = o.work;
       few = omega (
         arith,
         few_numbers _ c.args.controls.now.queue.next c.loop-certified.at c.loop-certified.clock c.loop-certified.controls
-            c.loop-certified.invariant.underway.work.keeps c.loop-certified.invariant.numbers,
+            c.loop-certified.invariant.journal.underway.work.keeps c.loop-certified.invariant.numbers,
       );
       built = c.loop-certified.invariant.network.built;
     }
@@ -92,12 +85,12 @@ step-progress-requires-clause-controls g c =
     let long = centre_long c.args.circuit.now c.args.powers.now.loads (positions_in c.loop-certified.at) c.rows.result
     c.in-Ok.certified.value (c.rows.ensures ∙ c.loop-certified.invariant.network.rows) c.in-Ok.ensures.sound in
     subst (λ k. AreControls k c.loop-certified.at c.loop-certified.clock c.loop-certified.controls)
-    (sym (ap (λ (m : Certified). length m.ball.centre.items) c.as_ref.ensures ∙ long)) c.loop-certified.invariant.underway.work.keeps
+    (sym (ap (λ (m : Certified). length m.ball.centre.items) c.as_ref.ensures ∙ long)) c.loop-certified.invariant.journal.underway.work.keeps
 
 pub step-progress-requires-clause-numbers : goal.step-progress-requires-clause-numbers
 step-progress-requires-clause-numbers g c =
     let few = few_numbers _ c.args.controls.now.queue.next c.loop-certified.at c.loop-certified.clock c.loop-certified.controls
-    c.loop-certified.invariant.underway.work.keeps c.loop-certified.invariant.numbers in
+    c.loop-certified.invariant.journal.underway.work.keeps c.loop-certified.invariant.numbers in
     omega (arith, few, c.requires.numbers)
 
 pub step-progress-requires-clause-ball : goal.step-progress-requires-clause-ball
@@ -111,12 +104,7 @@ returns-in-Some g c =
     let gave = subst (λ k.
     g.V.Solver.gives c.loop-certified.solver k c.rows.result (Ok (claim_in c.in-Ok.certified.value)) c.solve.new.self)
     limits c.in-Ok.ensures.gives in
-    let kept : c.loop-certified.rounds.items ≡ c.room_for_round.new.rounds.items = sym {A = List Round} c.room_for_round.ensures.kept in
-    let here = subst (λ (rs : List Round). IsUnderway (λ v. g.V.Solver.gives v (limits_of c.args.circuit.now.options))
-    c.args.circuit.now c.args.powers.now.loads c.args.solver.now
-    (machine_of c.args.at.now c.args.clock.now c.args.controls.now) c.args.rounds.now.items rs Open c.loop-certified.at
-    c.loop-certified.clock c.loop-certified.controls c.loop-certified.solver)
-    kept c.loop-certified.invariant.underway in
+    let j = c.loop-certified.invariant.journal in
     let step : IsStep c.loop-certified.at c.loop-certified.clock c.loop-certified.controls c.in-Ok.certified.value
     c.step-progress.result c.step-progress.new.acts.items c.step-progress.new.at c.step-progress.new.clock
     c.step-progress.new.self =
@@ -131,38 +119,32 @@ returns-in-Some g c =
       closed = c.step-progress.ensures.closed;
       time = c.step-progress.ensures.time;
     }) in
-    let new : c.push.new.self.items
-    ≡ c.room_for_round.new.rounds.items
-    ++ (record { certified = c.in-Ok.certified; acts = c.step-progress.new.acts }) ∷ [] =
-    search rules in
+    let round : Round = record { certified = c.in-Ok.certified; acts = c.step-progress.new.acts } in
     let after = underway_more (λ v. g.V.Solver.gives v (limits_of c.args.circuit.now.options)) c.args.circuit.now
-    c.args.powers.now (machine_of c.args.at.now c.args.clock.now c.args.controls.now) c.args.solver.now c.args.rounds.now.items
-    c.room_for_round.new.rounds.items c.loop-certified.at c.loop-certified.clock c.loop-certified.controls
-    c.loop-certified.net c.loop-certified.solver here c.loop-certified.invariant.network
-    c.size-size.ensures.valid.network c.rows.result (record {
-      certified = c.in-Ok.certified;
-      acts = c.step-progress.new.acts;
-    }) c.solve.new.self c.push.new.self.items c.step-progress.result c.step-progress.new.at c.step-progress.new.clock
-    c.step-progress.new.self c.rows.ensures gave c.in-Ok.ensures.sound new step in
+    c.args.powers.now (machine_of c.args.at.now c.args.clock.now c.args.controls.now) c.args.solver.now j.made
+    c.loop-certified.at c.loop-certified.clock c.loop-certified.controls c.loop-certified.net c.loop-certified.solver
+    j.underway c.loop-certified.invariant.network c.size-size.ensures.valid.network c.rows.result round
+    c.solve.new.self c.step-progress.result c.step-progress.new.at c.step-progress.new.clock
+    c.step-progress.new.self c.rows.ensures gave c.in-Ok.ensures.sound step in
     let o = over_told (λ v. g.V.Solver.gives v (limits_of c.args.circuit.now.options)) c.args.circuit.now
-    c.args.powers.now (machine_of c.args.at.now c.args.clock.now c.args.controls.now) c.args.solver.now c.args.rounds.now.items c.push.new.self.items
+    c.args.powers.now (machine_of c.args.at.now c.args.clock.now c.args.controls.now) c.args.solver.now (j.made ++ round ∷ [])
     c.step-progress.new.at c.step-progress.new.clock c.step-progress.new.self c.solve.new.self c.step-progress.result
     c.in-Some.end c.step-progress.new.acts.items after (sym c.in-Some.ensures) c.step-progress.ensures.acts in
     record {
-      kept = o.kept;
-      acts = o.acts;
-      machine = o.machine;
+      settled = record {
+        made = j.made ++ round ∷ [];
+        kept = kept_more g.K.Journal.holds c.args.rounds.now c.loop-certified.rounds c.room_for_round.new.rounds
+            c.keep.new.self j.made round j.kept c.room_for_round.ensures.kept c.keep.ensures;
+        settled = o.settled;
+      };
       now = o.now;
-      ends = o.ends;
-      calls = o.calls;
-      sound = o.sound;
       positions = o.positions;
       clock = o.clock;
       work = o.work;
       few = omega (
         arith,
         few_numbers _ c.args.controls.now.queue.next c.loop-certified.at c.loop-certified.clock c.loop-certified.controls
-            c.loop-certified.invariant.underway.work.keeps c.loop-certified.invariant.numbers,
+            c.loop-certified.invariant.journal.underway.work.keeps c.loop-certified.invariant.numbers,
         c.step-progress.ensures.few,
       );
       built = c.loop-certified.invariant.network.built;
@@ -172,7 +154,7 @@ pub update-requires-clause-settings : goal.update-requires-clause-settings
 update-requires-clause-settings g c =
     (stepped_positions c.args.circuit.now c.args.powers.now.loads (length c.as_ref.result.now.ball.centre.items)
     c.loop-certified.at c.step-progress.new.at c.step-progress.new.clock c.step-progress.new.self
-    c.loop-certified.invariant.underway.positions c.step-progress.ensures.controls c.step-progress.ensures.taps
+    c.loop-certified.invariant.journal.underway.positions c.step-progress.ensures.controls c.step-progress.ensures.taps
     c.step-progress.ensures.closed).counts
 
 pub update-requires-clause-within : goal.update-requires-clause-within
@@ -201,7 +183,7 @@ loop-certified-smaller g c =
     fewer_left c.count_law.ensures c.loop-certified.at c.step-progress.new.at c.loop-certified.clock
     c.step-progress.new.clock c.loop-certified.controls c.step-progress.new.self c.in-Ok.certified.value
     c.step-progress.result c.step-progress.new.acts.items c.args.circuit.now.options.maxcontroliter step moved
-    c.loop-certified.invariant.underway.work.limit
+    c.loop-certified.invariant.journal.underway.work.limit
 
 pub loop-certified-preserved : goal.loop-certified-preserved
 loop-certified-preserved g c =
@@ -209,12 +191,7 @@ loop-certified-preserved g c =
     let gave = subst (λ k.
     g.V.Solver.gives c.loop-certified.solver k c.rows.result (Ok (claim_in c.in-Ok.certified.value)) c.solve.new.self)
     limits c.in-Ok.ensures.gives in
-    let kept : c.loop-certified.rounds.items ≡ c.room_for_round.new.rounds.items = sym {A = List Round} c.room_for_round.ensures.kept in
-    let here = subst (λ (rs : List Round). IsUnderway (λ v. g.V.Solver.gives v (limits_of c.args.circuit.now.options))
-    c.args.circuit.now c.args.powers.now.loads c.args.solver.now
-    (machine_of c.args.at.now c.args.clock.now c.args.controls.now) c.args.rounds.now.items rs Open c.loop-certified.at
-    c.loop-certified.clock c.loop-certified.controls c.loop-certified.solver)
-    kept c.loop-certified.invariant.underway in
+    let j = c.loop-certified.invariant.journal in
     let step : IsStep c.loop-certified.at c.loop-certified.clock c.loop-certified.controls c.in-Ok.certified.value
     c.step-progress.result c.step-progress.new.acts.items c.step-progress.new.at c.step-progress.new.clock
     c.step-progress.new.self =
@@ -229,27 +206,26 @@ loop-certified-preserved g c =
       closed = c.step-progress.ensures.closed;
       time = c.step-progress.ensures.time;
     }) in
-    let new : c.push.new.self.items
-    ≡ c.room_for_round.new.rounds.items
-    ++ (record { certified = c.in-Ok.certified; acts = c.step-progress.new.acts }) ∷ [] =
-    search rules in
+    let round : Round = record { certified = c.in-Ok.certified; acts = c.step-progress.new.acts } in
     let after = underway_more (λ v. g.V.Solver.gives v (limits_of c.args.circuit.now.options)) c.args.circuit.now
-    c.args.powers.now (machine_of c.args.at.now c.args.clock.now c.args.controls.now) c.args.solver.now c.args.rounds.now.items
-    c.room_for_round.new.rounds.items c.loop-certified.at c.loop-certified.clock c.loop-certified.controls
-    c.loop-certified.net c.loop-certified.solver here c.loop-certified.invariant.network
-    c.size-size.ensures.valid.network c.rows.result (record {
-      certified = c.in-Ok.certified;
-      acts = c.step-progress.new.acts;
-    }) c.solve.new.self c.push.new.self.items c.step-progress.result c.step-progress.new.at c.step-progress.new.clock
-    c.step-progress.new.self c.rows.ensures gave c.in-Ok.ensures.sound new step in
+    c.args.powers.now (machine_of c.args.at.now c.args.clock.now c.args.controls.now) c.args.solver.now j.made
+    c.loop-certified.at c.loop-certified.clock c.loop-certified.controls c.loop-certified.net c.loop-certified.solver
+    j.underway c.loop-certified.invariant.network c.size-size.ensures.valid.network c.rows.result round
+    c.solve.new.self c.step-progress.result c.step-progress.new.at c.step-progress.new.clock
+    c.step-progress.new.self c.rows.ensures gave c.in-Ok.ensures.sound step in
     let moved = goes_on {F = g.row.V-Fault.Denot} c.step-progress.result (no_end _ c.ended.result c.ended.ensures c.in_default.not-Some) in
     let open' = subst (λ (q : Progress). IsUnderway (λ v. g.V.Solver.gives v (limits_of c.args.circuit.now.options))
     c.args.circuit.now c.args.powers.now.loads c.args.solver.now
-    (machine_of c.args.at.now c.args.clock.now c.args.controls.now) c.args.rounds.now.items c.push.new.self.items
+    (machine_of c.args.at.now c.args.clock.now c.args.controls.now) (j.made ++ round ∷ [])
     (end_by q) c.step-progress.new.at c.step-progress.new.clock c.step-progress.new.self c.solve.new.self)
     moved after in
     record {
-      underway = open';
+      journal = record {
+        made = j.made ++ round ∷ [];
+        kept = kept_more g.K.Journal.holds c.args.rounds.now c.loop-certified.rounds c.room_for_round.new.rounds
+            c.keep.new.self j.made round j.kept c.room_for_round.ensures.kept c.keep.ensures;
+        underway = open';
+      };
       network =
           updated c.args.circuit.now c.args.powers.now c.step-progress.new.at c.update.new.self c.update.ensures.built
           c.in_ok-update.ensures.network c.in_ok-update.ensures.no_blame c.in_ok-update.ensures.agrees;
@@ -263,12 +239,7 @@ returns-in_err-update g c =
     let gave = subst (λ k.
     g.V.Solver.gives c.loop-certified.solver k c.rows.result (Ok (claim_in c.in-Ok.certified.value)) c.solve.new.self)
     limits c.in-Ok.ensures.gives in
-    let kept : c.loop-certified.rounds.items ≡ c.room_for_round.new.rounds.items = sym {A = List Round} c.room_for_round.ensures.kept in
-    let here = subst (λ (rs : List Round). IsUnderway (λ v. g.V.Solver.gives v (limits_of c.args.circuit.now.options))
-    c.args.circuit.now c.args.powers.now.loads c.args.solver.now
-    (machine_of c.args.at.now c.args.clock.now c.args.controls.now) c.args.rounds.now.items rs Open c.loop-certified.at
-    c.loop-certified.clock c.loop-certified.controls c.loop-certified.solver)
-    kept c.loop-certified.invariant.underway in
+    let j = c.loop-certified.invariant.journal in
     let step : IsStep c.loop-certified.at c.loop-certified.clock c.loop-certified.controls c.in-Ok.certified.value
     c.step-progress.result c.step-progress.new.acts.items c.step-progress.new.at c.step-progress.new.clock
     c.step-progress.new.self =
@@ -283,46 +254,40 @@ returns-in_err-update g c =
       closed = c.step-progress.ensures.closed;
       time = c.step-progress.ensures.time;
     }) in
-    let new : c.push.new.self.items
-    ≡ c.room_for_round.new.rounds.items
-    ++ (record { certified = c.in-Ok.certified; acts = c.step-progress.new.acts }) ∷ [] =
-    search rules in
+    let round : Round = record { certified = c.in-Ok.certified; acts = c.step-progress.new.acts } in
     let after = underway_more (λ v. g.V.Solver.gives v (limits_of c.args.circuit.now.options)) c.args.circuit.now
-    c.args.powers.now (machine_of c.args.at.now c.args.clock.now c.args.controls.now) c.args.solver.now c.args.rounds.now.items
-    c.room_for_round.new.rounds.items c.loop-certified.at c.loop-certified.clock c.loop-certified.controls
-    c.loop-certified.net c.loop-certified.solver here c.loop-certified.invariant.network
-    c.size-size.ensures.valid.network c.rows.result (record {
-      certified = c.in-Ok.certified;
-      acts = c.step-progress.new.acts;
-    }) c.solve.new.self c.push.new.self.items c.step-progress.result c.step-progress.new.at c.step-progress.new.clock
-    c.step-progress.new.self c.rows.ensures gave c.in-Ok.ensures.sound new step in
+    c.args.powers.now (machine_of c.args.at.now c.args.clock.now c.args.controls.now) c.args.solver.now j.made
+    c.loop-certified.at c.loop-certified.clock c.loop-certified.controls c.loop-certified.net c.loop-certified.solver
+    j.underway c.loop-certified.invariant.network c.size-size.ensures.valid.network c.rows.result round
+    c.solve.new.self c.step-progress.result c.step-progress.new.at c.step-progress.new.clock
+    c.step-progress.new.self c.rows.ensures gave c.in-Ok.ensures.sound step in
     let moved = goes_on {F = g.row.V-Fault.Denot} c.step-progress.result (no_end _ c.ended.result c.ended.ensures c.in_default.not-Some) in
     let open' = subst (λ (q : Progress). IsUnderway (λ v. g.V.Solver.gives v (limits_of c.args.circuit.now.options))
     c.args.circuit.now c.args.powers.now.loads c.args.solver.now
-    (machine_of c.args.at.now c.args.clock.now c.args.controls.now) c.args.rounds.now.items c.push.new.self.items
+    (machine_of c.args.at.now c.args.clock.now c.args.controls.now) (j.made ++ round ∷ [])
     (end_by q) c.step-progress.new.at c.step-progress.new.clock c.step-progress.new.self c.solve.new.self)
     moved after in
     let p = err_from_is_err_and c.from_residual-in_err-update.result c.from_residual-in_err-update.ensures.1 in
     let o = over_refused (λ v. g.V.Solver.gives v (limits_of c.args.circuit.now.options)) c.args.circuit.now
-    c.args.powers.now (machine_of c.args.at.now c.args.clock.now c.args.controls.now) c.args.solver.now c.args.rounds.now.items c.push.new.self.items
+    c.args.powers.now (machine_of c.args.at.now c.args.clock.now c.args.controls.now) c.args.solver.now (j.made ++ round ∷ [])
     c.step-progress.new.at c.step-progress.new.clock c.step-progress.new.self c.solve.new.self
     c.in_err-update.field-0.0 c.from_residual-in_err-update.result open' c.in_err-update.ensures.fault
     (p.1 ∙ ap Err p.2) in
     record {
-      kept = o.kept;
-      acts = o.acts;
-      machine = o.machine;
+      settled = record {
+        made = j.made ++ round ∷ [];
+        kept = kept_more g.K.Journal.holds c.args.rounds.now c.loop-certified.rounds c.room_for_round.new.rounds
+            c.keep.new.self j.made round j.kept c.room_for_round.ensures.kept c.keep.ensures;
+        settled = o.settled;
+      };
       now = o.now;
-      ends = o.ends;
-      calls = o.calls;
-      sound = o.sound;
       positions = o.positions;
       clock = o.clock;
       work = o.work;
       few = omega (
         arith,
         few_numbers _ c.args.controls.now.queue.next c.loop-certified.at c.loop-certified.clock c.loop-certified.controls
-            c.loop-certified.invariant.underway.work.keeps c.loop-certified.invariant.numbers,
+            c.loop-certified.invariant.journal.underway.work.keeps c.loop-certified.invariant.numbers,
         c.step-progress.ensures.few,
       );
       built = c.update.ensures.built;
