@@ -1,20 +1,28 @@
 -- Lemmas on the hours that are left, for callers.
-use Rattle.std.proofs.Common.{◌≡◌, ◌∙◌, ℕ, zero, suc, ◌+◌, ◌-◌, ◌≤◌, List, [], ◌∷◌, Option, Some, None, true, refl, sym, ap, arith}
+use Rattle.std.proofs.Common.{◌≡◌, ◌∙◌, ℕ, zero, suc, ◌+◌, ◌-◌, ◌≤◌, List, [], ◌∷◌, Option, Some, None, true, Result, refl, sym, ap, subst, arith}
 use Rattle.std.specs.Prelude.{IfSome, IsSome, is_none}
 use Rattle.std.specs.List.{AllByRecursion, range_with_len}
 use Rattle.std.specs.Option.{unwrap_or}
+use Rattle.std.specs.declared.alloc.Global.{Global}
+use Rattle.std.specs.declared.vec.Vec.{Vec}
 use Rattle.std.proofs.lemmas.List.FromFn.{length-range_with_len}
 use Rattle.fd_settings.specs.dss_model.InRange.{OptionsInRange}
 use Rattle.fd_settings.specs.dss_model.declared.options.Options.{Options}
 use Rattle.fd_settings.specs.dss_model.declared.words.Mode.{Mode}
 use Rattle.fd_settings.specs.dss_model.declared.words.Mode.TheVariants as mode
 use Rattle.fd_settings.specs.dss_circuit.Circuit.{CircuitView}
+use Rattle.fd_settings.specs.fd_pattern.Views.{NetworkView}
+use Rattle.fd_settle.specs.fd_enclosure.Sound.{Claim}
 use Rattle.fd_settle.specs.fd_queue.Machine.{Machine, hour_begun}
 use Rattle.fd_settle.specs.fd_queue.declared.timing.Timing.{Timing}
 use Rattle.fd_settle.specs.fd_queue.declared.timing.Timing.TheVariants as timing
+use Rattle.fd_settle.specs.Journals.{HoldsAll}
 use Rattle.fd_settle.specs.Plant.{timing_of}
+use Rattle.fd_settle.specs.declared.fault.SettleFault.{SettleFault}
+use Rattle.fd_settle.specs.declared.round.Round.{Round}
 use Rattle.fd_daily.specs.Day.{DayView, IsDay, hour_in, hours_left, resumed}
 use Rattle.fd_daily.specs.Hours.{AreHours, hours_from, hours_in, hours_of, time_of}
+use Rattle.fd_daily.specs.Underway.{HasSettledHour, IsSettledHour}
 pub use Rattle.fd_settle.proofs.CallerLemmas.dss_ready as dss_ready
 pub use Rattle.fd_settle.proofs.CallerLemmas.fd_equations as fd_equations
 pub use Rattle.fd_settle.proofs.CallerLemmas.fd_inverse as fd_inverse
@@ -96,3 +104,11 @@ none_by (Some k) h = absurd (cc h)
 -- none is left where none comes next
 pub none_left : (d : DayView) (o : Option ℕ) → o ≡ d.hour → is_none o ≡ true → hours_left d ≡ []
 none_left d o next none = ap (λ (x : Option ℕ). hours_from x d.last) (sym next ∙ none_by o none)
+
+-- ---- rounds that are kept whole
+
+-- are those of the hour
+pub whole_hour : {V T F : Type 0} (gives : V → NetworkView → Result Claim F → V → Type 0) (c : CircuitView) (d : DayView)
+    (v w : V) (m n : Machine) (rounds : Vec Round Global) (result : Result T (SettleFault F))
+    → HasSettledHour gives HoldsAll c d v w m n rounds result → IsSettledHour gives c d v w m n result rounds.items
+whole_hour gives c d v w m n rounds result h = subst (IsSettledHour gives c d v w m n result) (sym h.held) h.settled

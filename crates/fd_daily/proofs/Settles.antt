@@ -11,35 +11,31 @@ use Rattle.fd_settle.specs.fd_exact.Sums.{list_n}
 use Rattle.fd_settle.specs.fd_capctl.CapState.{IsEarly}
 use Rattle.fd_settle.specs.fd_queue.Machine.{Machine, hour_begun}
 use Rattle.fd_settle.specs.fd_queue.declared.timing.Timing.{Timing}
-use Rattle.fd_settle.specs.Contract.{CallsAs, EndsAs, appended}
-use Rattle.fd_settle.specs.Plant.{plant_of, timing_of}
-use Rattle.fd_settle.specs.Rounds.{AtEach, acts_in, claims_in, settled}
-use Rattle.fd_settle.specs.Start.{IsClock, IsSoundAt}
+use Rattle.fd_settings.specs.Hours.{hour_powers}
+use Rattle.fd_settle.specs.Contract.{HasSettled, IsSettled}
+use Rattle.fd_settle.specs.Plant.{timing_of}
+use Rattle.fd_settle.specs.Start.{IsClock}
 use Rattle.fd_settle.specs.declared.clock.Clock.{Clock}
 use Rattle.fd_settle.specs.declared.fault.SettleFault.{SettleFault}
 use Rattle.fd_settle.specs.declared.round.Round.{Round}
 use Rattle.fd_settle.proofs.CallerLemmas.{none_early}
 use Rattle.fd_daily.specs.Day.{DayView, begun_hour, hour_in, no_openings}
 use Rattle.fd_daily.specs.Hours.{time_of}
+use Rattle.fd_daily.specs.Underway.{HasSettledHour}
 
--- these rounds are those of a settle from a machine on, which leaves another
-pub record IsSettled {V T F : Type 0} (gives : V → NetworkView → Result Claim F → V → Type 0) (c : CircuitView)
-    (loads : List LoadPower) (v w : V) (m n : Machine) (rounds : List Round) (result : Result T (SettleFault F)) : Type 0 where
-  pub acts : acts_in rounds ≡ (settled (plant_of c loads) m rounds).rounds
-  pub machine : n ≡ (settled (plant_of c loads) m rounds).machine
-  pub ends : EndsAs (plant_of c loads) result (settled (plant_of c loads) m rounds).end (settled (plant_of c loads) m rounds).machine
-  pub calls : CallsAs gives (plant_of c loads) v m rounds result w
-  pub sound : AtEach (IsSoundAt c loads) (plant_of c loads) m (claims_in rounds)
-
--- the same machine, powers and rounds by other names
-pub settled_there : {V T F : Type 0} (gives : V → NetworkView → Result Claim F → V → Type 0) (c : CircuitView)
-    (loads there : List LoadPower) (v w : V) (m k n : Machine) (old rounds : List Round) (result : Result T (SettleFault F))
-    → loads ≡ there → m ≡ k → old ≡ [] → IsSettled gives c loads v w m n (appended old rounds) result
-    → IsSettled gives c there v w k n rounds result
-settled_there gives c loads there v w m k n old rounds result powers machine none h =
-    subst (λ (xs : List Round). IsSettled gives c there v w k n (appended xs rounds) result) none
-    (subst (λ (x : Machine). IsSettled gives c there v w x n (appended old rounds) result) machine
-    (subst (λ (x : List LoadPower). IsSettled gives c x v w m n (appended old rounds) result) powers h))
+-- the same machine and powers by other names, with a journal that held no round before
+pub settled_there : {V T F K : Type 0} (gives : V → NetworkView → Result Claim F → V → Type 0) (holds : K → List Round → Type 0)
+    (c : CircuitView) (d : DayView) (loads : List LoadPower) (v w : V) (m before n : Machine) (old new : K)
+    (result : Result T (SettleFault F))
+    → loads ≡ hour_powers c.elements (hour_in d) → m ≡ begun_hour c d before → holds old []
+    → HasSettled gives holds c loads v w m n old new result
+    → HasSettledHour gives holds c d v w before n new result
+settled_there gives holds c d loads v w m before n old new result powers machine none h = record {
+  made = h.made;
+  held = h.kept [] none;
+  settled = subst (λ (x : Machine). IsSettled gives c (hour_powers c.elements (hour_in d)) v w x n result h.made) machine
+      (subst (λ (x : List LoadPower). IsSettled gives c x v w m n result h.made) powers h.settled);
+}
 
 -- the machine with which the next hour begins
 pub begun_there : (c : CircuitView) (d : DayView) (before m : Machine) (t : Timing) (now hour : ℕ)

@@ -24,7 +24,7 @@ pub use underway::Underway;
 // Handed on from the crates below.
 pub use fd_settings::{BankStates, BuildFault, Positions, Taps, hours_law, modest_law, next_law};
 pub use fd_settle::{
-    CertFault, Certified, Compute, ComputeFault, ReadyFault, Round, Rule, SettleFault, SolveFault,
-    ball_law, certificate_law, enclosure_law, kept_law, kept_rounds_law, linear_law, network_law,
-    passed_law, ready, sound_at_law, tie_law,
+    Act, ActJournal, CertFault, Certified, Compute, ComputeFault, Journal, ReadyFault, Round, Rule,
+    SettleFault, SolveFault, ball_law, certificate_law, enclosure_law, kept_law, kept_rounds_law,
+    linear_law, network_law, passed_law, ready, sound_at_law, tie_law,
 };

@@ -11,14 +11,14 @@ use crate::day::{Day, no_openings};
 use fd_settings::{
     BuildFault, Circuit, DailyLoads, Positions, Powers, hours_law, next_law, next_positions,
 };
-use fd_settle::{Clock, Controls, Network, Probe, Round, probes};
+use fd_settle::{Clock, Controls, Journal, Network, Probe, probes};
 use std::alloc::Global;
 
 /// The hours of a Solve under way: its loads with what they follow, the probes of the circuit's controls, the network with
-/// the powers of the next hour, where the Solve stands, the time and the controls as the hour before left them, and room
-/// for the rounds of an hour.
+/// the powers of the next hour, where the Solve stands, the time and the controls as the hour before left them, and what
+/// is kept of the rounds of an hour.
 #[derive(Drop)]
-pub struct Underway {
+pub struct Underway<K> {
     pub loads: DailyLoads,
     pub probes: Vec<Probe>,
     pub net: Network,
@@ -26,10 +26,10 @@ pub struct Underway {
     pub day: Day,
     pub clock: Clock,
     pub controls: Controls,
-    pub rounds: Vec<Round>,
+    pub rounds: K,
 }
 
-impl Underway {
+impl<K: Journal> Underway<K> {
     /// Starts a Solve of a circuit that passed the tests. The positions are those that the Solve before left; they become
     /// those with which this one starts, and the network is that of its first hour.
     ///
@@ -40,7 +40,7 @@ impl Underway {
         alloc: Global,
         circuit: &Circuit,
         at: &mut Positions,
-    ) -> Result<Underway, BuildFault>
+    ) -> Result<Underway<K>, BuildFault>
         requires ready { HasPassed circuit.now }
         requires taps { All AreTaps at.old.taps }
         ensures start { OnOk result (positions_in at.new ≡ start_from circuit.now (positions_in at.old)) }
@@ -76,10 +76,12 @@ impl Underway {
             day,
             clock,
             controls,
-            rounds: Vec::new(alloc),
+            rounds: K::empty(alloc),
         })
     }
+}
 
+impl<K> Underway<K> {
     /// The hour that comes next, where one is left: 0 for a snapshot, from 1 on for a day.
     pub fn hour(&self) -> u32
         requires { IsSome self.now.day.hour }

@@ -4,14 +4,13 @@ use Rattle.fd_daily.specs.Hours.{time_of}
 use Rattle.fd_daily.specs.Underway.{machine_in}
 use Rattle.fd_daily.proofs.Behind.{begun_numbers, day_behind, left_behind, may_begin}
 use Rattle.fd_daily.proofs.CallerLemmas.{hour_within}
-use Rattle.fd_daily.proofs.Settles.{IsSettled, begun_there, settled_there}
-use Rattle.fd_settings.specs.Hours.{hour_powers}
+use Rattle.fd_daily.proofs.Settles.{begun_there, settled_there}
 use Rattle.fd_settle.specs.fd_queue.Machine.{Machine, hour_begun}
 use Rattle.fd_settle.specs.fd_queue.declared.timing.Timing.{Timing}
 use Rattle.fd_settle.specs.Contract.{limits_of}
 use Rattle.fd_settle.specs.Controls.{AreAtWork, machine_of}
 use Rattle.fd_settle.specs.Plant.{timing_of}
-use Rattle.fd_daily.proofs.running.daily_run.Goals.{After-begin_hour, After-settle-ended}
+use Rattle.fd_daily.proofs.running.daily_run.Goals.{After-begin_hour}
 use Rattle.fd_daily.proofs.running.daily_run.Goals as goal
 
 -- ---- the hour begins
@@ -53,44 +52,16 @@ settle-ended-requires-clause-numbers g c =
 
 -- ---- the hour is settled
 
-made : (g : _) (c : After-settle-ended g)
-    → IsSettled (λ v. g.V.Solver.gives v (limits_of c.args.circuit.now.options)) c.args.circuit.now
-    (hour_powers c.args.circuit.now.elements (hour_in c.args.underway.now.day)) c.args.solver.now c.settle-ended.new.solver
-    (begun_hour c.args.circuit.now c.args.underway.now.day (machine_in c.args.at.now c.args.underway.now))
+pub returns-clause-settled : goal.returns-clause-settled
+returns-clause-settled g c =
+    settled_there (λ v. g.V.Solver.gives v (limits_of c.args.circuit.now.options)) g.K.Journal.holds c.args.circuit.now
+    c.args.underway.now.day c.args.underway.now.powers.loads c.args.solver.now c.settle-ended.new.solver
+    (machine_of c.args.at.now c.begin_hour.new.clock c.begin_hour.new.self) (machine_in c.args.at.now c.args.underway.now)
     (machine_of c.settle-ended.new.at c.settle-ended.new.clock c.settle-ended.new.controls)
-    c.settle-ended.new.rounds.items c.settle-ended.result
-made g c =
-    settled_there (λ v. g.V.Solver.gives v (limits_of c.args.circuit.now.options)) c.args.circuit.now
-    c.args.underway.now.powers.loads (hour_powers c.args.circuit.now.elements (hour_in c.args.underway.now.day))
-    c.args.solver.now c.settle-ended.new.solver
-    (machine_of c.args.at.now c.begin_hour.new.clock c.begin_hour.new.self)
-    (begun_hour c.args.circuit.now c.args.underway.now.day (machine_in c.args.at.now c.args.underway.now))
-    (machine_of c.settle-ended.new.at c.settle-ended.new.clock c.settle-ended.new.controls)
-    c.clear.new.self.items c.settle-ended.new.rounds.items c.settle-ended.result c.requires.underway.powers
+    c.forget.new.self c.settle-ended.new.rounds c.settle-ended.result c.requires.underway.powers
     (begun_there c.args.circuit.now c.args.underway.now.day (machine_in c.args.at.now c.args.underway.now) _ _ _ _
     (c.begin_hour.ensures.machine c.args.at.now) c.requires.underway.work.timing c.time_of.ensures c.hour-hour.ensures)
-    c.clear.ensures.items (record {
-      acts = c.settle-ended.ensures.acts;
-      machine = c.settle-ended.ensures.machine;
-      ends = c.settle-ended.ensures.ends;
-      calls = c.settle-ended.ensures.calls;
-      sound = c.settle-ended.ensures.sound;
-    })
-
-pub returns-clause-acts : goal.returns-clause-acts
-returns-clause-acts g c = (made g (goal.at.returns-clause-acts g c).After-settle-ended).acts
-
-pub returns-clause-machine : goal.returns-clause-machine
-returns-clause-machine g c = (made g (goal.at.returns-clause-machine g c).After-settle-ended).machine
-
-pub returns-clause-ends : goal.returns-clause-ends
-returns-clause-ends g c = (made g (goal.at.returns-clause-ends g c).After-settle-ended).ends
-
-pub returns-clause-calls : goal.returns-clause-calls
-returns-clause-calls g c = (made g (goal.at.returns-clause-calls g c).After-settle-ended).calls
-
-pub returns-clause-sound : goal.returns-clause-sound
-returns-clause-sound g c = (made g (goal.at.returns-clause-sound g c).After-settle-ended).sound
+    c.forget.ensures c.settle-ended.ensures.settled
 
 -- ---- what comes behind it
 

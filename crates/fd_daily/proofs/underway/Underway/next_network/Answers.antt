@@ -7,12 +7,12 @@ use Rattle.fd_daily.proofs.Starting.{network_there, other_settings, refused_at}
 use Rattle.fd_daily.proofs.underway.Underway.next_network.Goals as goal
 
 pub update-requires-clause-settings : goal.update-requires-clause-settings
-update-requires-clause-settings c =
+update-requires-clause-settings g c =
     other_settings c.args.circuit.now c.args.at.now c.args.self.now.powers.loads c.in_ok-powers.powers c.hour-hour.result c.in_ok-powers.ensures.powers
     c.hours_law.ensures c.requires.after_hour.positions
 
 pub returns-in-Ok-clause-underway : goal.returns-in-Ok-clause-underway
-returns-in-Ok-clause-underway c =
+returns-in-Ok-clause-underway g c =
     let circuit = c.args.circuit.now in
     let loads = c.in_ok-powers.ensures.powers in
     record {
@@ -34,7 +34,7 @@ returns-in-Ok-clause-underway c =
     }
 
 pub returns-in-Err-clause-refused : goal.returns-in-Err-clause-refused
-returns-in-Err-clause-refused c =
+returns-in-Err-clause-refused g c =
     let circuit = c.args.circuit.now in
     let day = c.args.self.now.day in
     refused_at circuit c.args.at.now c.in_ok-powers.powers c.hour-hour.result (hours_behind day) (hours_left day) (positions_in c.args.at.now) refl
