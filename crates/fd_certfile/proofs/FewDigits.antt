@@ -1,17 +1,18 @@
 -- Numbers of few digits at the head of a text.
-use Rattle.std.proofs.Common.{◌≡◌, ℕ, zero, suc, ◌-◌, ◌^◌, ◌<◌, ◌≤◌, true, false, ℤ, pos, List, [], ◌∷◌, ◌++◌, length, get_or, take, drop, Some, ap, sym, subst, ◌∙◌, arith}
+use Rattle.std.proofs.Common.{◌≡◌, ℕ, zero, suc, ◌+◌, ◌-◌, ◌^◌, ◌<◌, ◌≤◌, true, false, ℤ, pos, List, [], ◌∷◌, ◌++◌, length, get_or, take, drop, Option, Some, None, refl, ap, sym, subst, ◌∙◌, arith}
 use Rattle.std.specs.Prelude.{neg_ℤ, option_map}
 use Rattle.std.specs.List.{slice_split}
 use Rattle.std.specs.Str.Parse.{AllDigits, digits_value}
 use Rattle.std.proofs.Math.Nat.{pow-le-pow_right}
 use Rattle.std.proofs.lemmas.Int.Digits.{digits_value-lt}
-use Rattle.std.proofs.lemmas.Bool.{eqb-true}
-use Rattle.std.proofs.lemmas.List.{append-nil, length-take, take_all, take-append-drop}
-use Rattle.fd_certfile.specs.Cuts.{Lacks, first_number}
+use Rattle.std.proofs.lemmas.Bool.{eqb-true, ne_eqb}
+use Rattle.std.proofs.lemmas.List.{append-nil, drop_more, length-take, take_all, take-append-drop}
+use Rattle.fd_certfile.specs.Cuts.{first_number}
 use Rattle.fd_certfile.specs.FewDigits.{IsHead, IsSizeBefore, IsShortBefore, EndsField}
 use Rattle.fd_certfile.specs.Lines.{is_blank}
 use Rattle.fd_certfile.specs.Numerals.{is_negative, leads_with_zero}
-use Rattle.fd_certfile.proofs.Fields.{parted_at, parted_none}
+use Rattle.fd_certfile.specs.Numbers.{numbers_of}
+use Rattle.fd_certfile.proofs.Fields.{first_some, parted_at, parted_none}
 use Rattle.fd_certfile.proofs.Inked.{above_digits, lacks_all}
 use Rattle.fd_certfile.proofs.Numerals.{minus_number, plain_number}
 
@@ -87,3 +88,51 @@ pub short_field : (text : List ℕ) (z : ℤ) (rest : List ℕ) (fields : List (
 short_field text z rest fields h k =
     sym (ap first_number (ap (slice_split is_blank) h.whole ∙ k h.front h.lacks)
     ∙ ap (option_map (λ y. (y, fields))) h.spells)
+
+-- ---- digits before a blank
+
+leads_first : (c : ℕ) (ds : List ℕ) → (c ≡ 48 → ⊥) → leads_with_zero (c ∷ ds) ≡ false
+leads_first c [] h = refl
+leads_first c (d ∷ ds) h = ne_eqb c 48 h
+
+leads_taken : (k : ℕ) (text : List ℕ) → (get_or text 0 0 ≡ 48 → ⊥) → leads_with_zero (take k text) ≡ false
+leads_taken zero text h = refl
+leads_taken (suc k) [] h = refl
+leads_taken (suc k) (c ∷ cs) h = leads_first c (take k cs) h
+
+pub natural_before : (text : List ℕ) (value count : ℕ) (rest : List ℕ) → IsHead text value count → 0 < count
+    → count < length text → (get_or text 0 0 ≡ 48 → ⊥) → get_or text count 0 ≡ 32 → rest ≡ drop (count + 1) text
+    → IsSizeBefore text value (32 ∷ rest)
+natural_before text value count rest h some l none blank f = record {
+  digits = take count text;
+  whole = sym (take-append-drop count text)
+      ∙ ap (λ (t : List ℕ). take count text ++ t)
+      (drop_more text count 0 l ∙ ap (λ (c : ℕ). c ∷ drop (count + 1) text) blank ∙ ap (λ (t : List ℕ). 32 ∷ t) (sym f));
+  size = record {
+    numeral = (omega (arith, some, l, length-take count text), h.digits);
+    no_zero = leads_taken count text none;
+    small = omega (arith, h.small, h.worth);
+  };
+  worth = h.worth;
+  small = h.small;
+}
+
+blank_field : (text more : List ℕ) (z : ℤ) → IsShortBefore text z (32 ∷ more)
+    → numbers_of (slice_split is_blank text) ≡ option_map (λ zs. z ∷ zs) (numbers_of (slice_split is_blank more))
+blank_field text more z h =
+    first_some (slice_split is_blank text) z (slice_split is_blank more)
+    (short_field text z (32 ∷ more) (slice_split is_blank more) h
+    (λ front l. parted_at (front ++ 32 ∷ more) front more l refl))
+
+pub pair_fields : (text : List ℕ) (place : ℕ) (more : List ℕ) (e : ℤ) (rest : List ℕ)
+    → IsSizeBefore text place (32 ∷ more) → IsShortBefore more e (32 ∷ rest)
+    → numbers_of (slice_split is_blank text)
+    ≡ option_map (λ zs. pos place ∷ e ∷ zs) (numbers_of (slice_split is_blank rest))
+pair_fields text place more e rest h k =
+    blank_field text more (pos place) (plain_before text place (32 ∷ more) h)
+    ∙ ap (option_map (λ zs. pos place ∷ zs)) (blank_field more rest e k) ∙ both (numbers_of (slice_split is_blank rest))
+  where
+    both : (o : Option (List ℤ))
+        → option_map (λ zs. pos place ∷ zs) (option_map (λ zs. e ∷ zs) o) ≡ option_map (λ zs. pos place ∷ e ∷ zs) o
+    both None = refl
+    both (Some zs) = refl

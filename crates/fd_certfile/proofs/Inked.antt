@@ -1,16 +1,19 @@
 -- Texts without blanks and line feeds.
-use Rattle.std.proofs.Common.{◌≡◌, ℕ, suc, ◌<◌, ◌≤◌, true, false, ℤ, pos, negsuc, List, [], ◌∷◌, ◌++◌, All, refl, ap, ◌∙◌, arith}
+use Rattle.std.proofs.Common.{◌≡◌, ℕ, suc, ◌<◌, ◌≤◌, true, false, ℤ, pos, negsuc, List, [], ◌∷◌, ◌++◌, All, refl, ap, ◌∙◌, arith, ◌+◌, length, inl, inr, take, drop, get_or, sym}
 use Rattle.std.specs.Prelude.{nat_eq, nat_lt, map}
 use Rattle.std.specs.List.{AllByRecursion, list_all, slice_split, join_with_byte}
 use Rattle.std.specs.Fmt.{decimal, signed_decimal}
 use Rattle.std.specs.Str.Parse.{AllDigits}
-use Rattle.std.proofs.lemmas.Bool.{and_parts, ltb-true, ne_eqb}
+use Rattle.std.proofs.lemmas.Bool.{and_parts, ltb-true, ne_eqb, cases_Bool}
 use Rattle.std.proofs.lemmas.Fmt.{decimal_is_IsNumeral_wide}
 use Rattle.std.proofs.lemmas.List.Elements.{All-from_recursion}
 use Rattle.std.proofs.lemmas.List.Splits.{slice_split_none, slice_split_at}
 use Rattle.std.proofs.lemmas.Str.Parse.{digit_from_value}
 use Rattle.fd_certfile.specs.Numbers.{IsNumber}
 use Rattle.fd_certfile.specs.Lines.{Line, header, solution, state, row, act, end, other, is_blank, word_of, numbers_in, text_of}
+use Rattle.std.proofs.lemmas.List.{drop_more, take-append-drop, length-take, get_or-take, get_or_default}
+use Rattle.memchr.specs.Find.{Nowhere, Passes, is_byte}
+use Rattle.fd_certfile.specs.Cuts.{Lacks}
 
 -- each byte is above this one
 abbrev pub Above : ℕ → List ℕ → Type 0
@@ -76,3 +79,29 @@ split_text line h = split_join (word_of line) (map signed_decimal (numbers_in li
 
 pub above_text : (line : Line) → AllByRecursion IsNumber (numbers_in line) → Above 10 (text_of line)
 above_text line h = above_join (word_of line) (map signed_decimal (numbers_in line)) (above_word line) (above_decimals (numbers_in line) h)
+
+-- ---- bytes that are cut at one of them
+
+-- no place has that byte
+pub lacks_nowhere : (bytes : List ℕ) (c : ℕ) → Nowhere (Passes (is_byte c) bytes) 0 (length bytes) → Lacks c bytes
+lacks_nowhere bytes c h k d l = elim (cases_Bool (nat_eq (get_or bytes k d) c)) [
+  | inl is ↦ absurd (h k (omega arith) l (ap (λ (x : ℕ). nat_eq x c) (get_or_default bytes k 0 d l) ∙ is))
+  | inr isnt ↦ isnt
+]
+
+-- no place before i has it
+pub lacks_before : (bytes : List ℕ) (i c : ℕ) → Nowhere (Passes (is_byte c) bytes) 0 i → Lacks c (take i bytes)
+lacks_before bytes i c h k d l =
+    let m : k < length (take i bytes) = l in
+    let below : k < i = omega (arith, m, length-take i bytes) in
+    let within : k < length bytes = omega (arith, m, length-take i bytes) in
+    elim (cases_Bool (nat_eq (get_or (take i bytes) k d) c)) [
+      | inl is ↦ absurd (h k (omega arith) below (ap (λ (x : ℕ). nat_eq x c) (get_or_default bytes k 0 d within ∙ sym (get_or-take i bytes k d below)) ∙ is))
+      | inr isnt ↦ isnt
+    ]
+
+-- the bytes up to the byte at i, and those behind it
+pub cut_at : (bytes : List ℕ) (i : ℕ) (c : ℕ) → i < length bytes → get_or bytes i 0 ≡ c
+    → bytes ≡ take i bytes ++ c ∷ drop (i + 1) bytes
+cut_at bytes i c l e = sym (take-append-drop i bytes)
+    ∙ ap (λ (t : List ℕ). take i bytes ++ t) (drop_more bytes i 0 l ∙ ap (λ (d : ℕ). d ∷ drop (i + 1) bytes) e)

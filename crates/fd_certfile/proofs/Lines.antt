@@ -1,5 +1,5 @@
 -- Each line has one text, and a text one list of lines.
-use Rattle.std.proofs.Common.{◌≡◌, ℕ, ◌<◌, false, ℤ, List, [], ◌∷◌, ◌++◌, length, All, ◌⊎◌, inl, inr, Option, Some, None, refl, ap, sym, subst, ◌∙◌, arith}
+use Rattle.std.proofs.Common.{◌≡◌, ℕ, ◌<◌, false, ℤ, List, [], ◌∷◌, ◌++◌, length, All, ◌⊎◌, inl, inr, Option, Some, None, refl, ap, sym, subst, ◌∙◌, arith, Bool, true, cond}
 use Rattle.std.specs.Prelude.{map, codes}
 use Rattle.std.specs.List.{AllByRecursion, slice_split, join_with_byte}
 use Rattle.std.specs.Fmt.{signed_decimal}
@@ -13,6 +13,7 @@ use Rattle.fd_certfile.specs.Lines.{Line, header, solution, state, row, act, end
 use Rattle.fd_certfile.proofs.SameTexts.{same_from}
 use Rattle.fd_certfile.proofs.Numbers.{numbers_again, numbers_found}
 use Rattle.fd_certfile.proofs.Inked.{split_text, above_text, lacks_all}
+use Rattle.fd_certfile.specs.Views.{line_by_fields}
 
 -- ---- a line is read again
 
@@ -207,3 +208,26 @@ lines_found (line ∷ lines) rest bytes h e =
           let others : lines_of k.more ≡ lines ++ rest = cc in
           begins_more bytes line lines rest k first h.0 (go k.more h.1 others)
     ]
+
+-- ---- the line of a text by its word and what the fields behind it spell
+
+either : (b : Bool) (l : Line) → l ≡ other → cond b other l ≡ other
+either true l e = refl
+either false l e = e
+
+-- a field that spells no number makes no line
+pub by_none : (word : List ℕ) → line_by_fields word None ≡ other
+unfolding line_by_fields
+by_none word =
+    either (text_eq word (codes "cert")) _ (either (text_eq word (codes "solution")) _ (either (text_eq word (codes "x")) _
+    (either (text_eq word (codes "c")) _ (either (text_eq word (codes "act")) _ (either (text_eq word (codes "end")) other refl)))))
+
+pub by_fields : (word : List ℕ) (o : Option (List ℤ)) → line_by_fields word o ≡ line_with word o
+unfolding line_by_fields line_by
+by_fields word None = by_none word
+by_fields word (Some numbers) = refl
+
+pub line_parted : (text word : List ℕ) (fields : List (List ℕ)) → slice_split is_blank text ≡ word ∷ fields
+    → line_by_fields word (numbers_of fields) ≡ line_of text
+unfolding line_of
+line_parted text word fields e = by_fields word (numbers_of fields) ∙ sym (ap line_in e)

@@ -1,11 +1,18 @@
 -- The entries of a row of either version, step by step.
-use Rattle.std.proofs.Common.{◌≡◌, ℕ, ◌+◌, ◌-◌, ◌<◌, ◌≤◌, Bool, true, false, ℤ, List, [], ◌++◌, inl, inr, None, refl, ap, sym, subst, ◌∙◌, arith}
+use Rattle.std.proofs.Common.{◌≡◌, ℕ, ◌+◌, ◌-◌, ◌<◌, ◌≤◌, Bool, true, false, ℤ, pos, List, [], ◌∷◌, ◌++◌, length, inl, inr, Option, Some, None, refl, ap, sym, subst, ◌∙◌, arith}
+use Rattle.std.specs.Prelude.{count_by, option_map}
 use Rattle.std.specs.List.{slice_split}
+use Rattle.std.specs.Option.{option_and_then}
+use Rattle.std.proofs.lemmas.Bool.{cases_Bool, cond-false}
 use Rattle.std.proofs.lemmas.List.{append-nil}
+use Rattle.std.proofs.lemmas.List.Sums.{count_by-le-length}
 use Rattle.fd_certfile.specs.Numbers.{numbers_of}
 use Rattle.fd_certfile.specs.Lines.{is_blank}
-use Rattle.fd_certfile.specs.Blocks.{Version, Whole, Sparse}
-use Rattle.fd_certfile.specs.Readings.{AreSteps, HasNext, IsNext, IsNoNext, RowIs, entries_by, kept, zeros}
+use Rattle.fd_certfile.specs.Blocks.{Version, Whole, Sparse, entries_at, is_entry, is_place, row_of, with_count}
+use Rattle.fd_certfile.specs.Cuts.{first_number}
+use Rattle.fd_certfile.specs.Readings.{AreSteps, HasNext, IsNext, IsNoNext, RowIs, entries_by, kept, row_in, zeros}
+use Rattle.fd_certfile.proofs.Fields.{first_some}
+use Rattle.fd_certfile.proofs.RowForms.{entries_found, place_is}
 use Rattle.fd_certfile.proofs.PairReading.{ArePaired, paired_all, paired_few, paired_more, paired_past, paired_start, paired_wrong}
 use Rattle.fd_certfile.proofs.RowReading.{IsTaken, taken_all, taken_more, taken_none, taken_past, taken_start}
 
@@ -58,3 +65,31 @@ module _ (keep : Bool) (old new : List ℤ) (n : ℕ) (all : List (List ℕ)) (k
       subst (λ (l : List ℤ). RowIs keep old l (entries_by Whole n steps (numbers_of all))) (no_zeros keep (n - next) new now (omega (arith, s, e, t.1)) f)
       (taken_all keep old new all k rest t.0 r n (e ∙ s))
   read_all Sparse steps s e t r now f = paired_all keep old new n all k next rest t r steps e now f
+
+-- a number of pairs that no row of n has
+module _ (n : ℕ) (count : ℤ) (past : (k : ℕ) → count ≡ pos k → k ≤ n → ⊥) where
+  past_entries : (o : Option (List ℤ)) → ((r : List ℤ) → o ≡ Some r → length r ≡ n)
+      → option_and_then (with_count count) o ≡ None
+  past_entries None h = refl
+  past_entries (Some r) h = elim (cases_Bool (is_place (count_by is_entry r) count)) [
+    | inl is ↦
+        absurd (past (count_by is_entry r) (place_is (count_by is_entry r) count is)
+        (omega (arith, h r refl, count_by-le-length is_entry r)))
+    | inr isnt ↦ cond-false (is_place (count_by is_entry r) count) _ _ isnt
+  ]
+
+  pub past_row : (fields more : List (List ℕ)) → Some (count, more) ≡ first_number fields
+      → row_in Sparse n (numbers_of fields) ≡ None
+  past_row fields more e = ap (row_in Sparse n) (first_some fields count more e) ∙ at (numbers_of more)
+    where
+      at : (o : Option (List ℤ)) → option_and_then (row_of Sparse n) (option_map (λ zs. count ∷ zs) o) ≡ None
+      at None = refl
+      at (Some zs) = past_entries (entries_at n 0 zs) (λ r f. (entries_found n 0 zs r f).0)
+
+-- where no field is left there is no pair
+pub no_fields : (n next : ℕ) (fields : List (List ℕ)) → fields ≡ [] → IsNoNext Sparse n next fields
+no_fields n next fields e = inl (λ zs f. few zs (sym (ap numbers_of e) ∙ f))
+  where
+    few : (zs : List ℤ) → Some [] ≡ Some zs → length zs < 2
+    few [] f = omega arith
+    few (z ∷ zs) f = absurd cc

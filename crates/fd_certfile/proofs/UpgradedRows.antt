@@ -1,5 +1,5 @@
 -- A row of version 1 in version 2, of which each entry has the text of its field.
-use Rattle.std.proofs.Common.{◌≡◌, ℕ, ◌+◌, ◌<◌, ◌≤◌, true, false, ℤ, pos, List, [], ◌∷◌, ◌++◌, length, inl, inr, Option, Some, None, refl, ap, sym, subst, ◌∙◌, arith, true≢false}
+use Rattle.std.proofs.Common.{◌≡◌, ℕ, ◌+◌, ◌≤◌, true, false, ℤ, pos, List, [], ◌∷◌, ◌++◌, length, inl, inr, Option, Some, None, refl, ap, sym, subst, ◌∙◌, arith, true≢false}
 use Rattle.std.specs.Prelude.{IsSome, codes, count_by, option_map}
 use Rattle.std.specs.Fmt.{signed_decimal}
 use Rattle.std.specs.List.{slice_split}
@@ -9,8 +9,8 @@ use Rattle.std.proofs.lemmas.List.{append_assoc, append-nil}
 use Rattle.std.proofs.lemmas.List.Splits.{length-slice_split}
 use Rattle.std.proofs.lemmas.List.Sums.{count_by-le-length}
 use Rattle.fd_certfile.specs.Numbers.{number_of, numbers_of, text_eq}
-use Rattle.fd_certfile.specs.Lines.{Line, is_blank, line_bytes, row}
-use Rattle.fd_certfile.specs.Blocks.{Whole, is_entry, is_zero, pair_of}
+use Rattle.fd_certfile.specs.Lines.{is_blank, line_bytes, row}
+use Rattle.fd_certfile.specs.Blocks.{Whole, is_entry, is_zero}
 use Rattle.fd_certfile.specs.Texts.{entry_count, entry_text, field_text, fields_text, with_entries}
 use Rattle.fd_certfile.specs.Upgrade.{upgraded}
 use Rattle.fd_certfile.specs.Views.{or_other}

@@ -66,8 +66,9 @@ impl Cells {
         }
     }
 
-    // Adds a number of 64 bits behind the others.
-    fn push_short(&mut self, number: i64) -> Result<(), AllocError>
+    /// Adds a number of 64 bits behind the others.
+    #[inline(always)]
+    pub(crate) fn push_short(&mut self, number: i64) -> Result<(), AllocError>
         ensures { OnOk result (self.new ≡ self.old ++ number ∷ []) }
     {
         self.shorts.push(number)?;

@@ -35,6 +35,14 @@ fn found(text: &[u8]) -> Option<(i128, Fields<'_>)>
     }
 }
 
+// The same. It is inlined, so that the answer's room is made only where the call is.
+#[inline(always)]
+fn found_apart(text: &[u8]) -> Option<(i128, Fields<'_>)>
+    ensures { option_map (λ p. (p.0, texts_of (option_map (λ t. t.now) p.1))) result ≡ first_number (slice_split is_blank text.now) }
+{
+    found(text)
+}
+
 /// The number that the first field spells, and the other fields. One of few digits is read with its end in one walk.
 #[inline(always)]
 pub(crate) fn first(fields: Fields<'_>) -> Option<(i128, Fields<'_>)>
@@ -43,7 +51,7 @@ pub(crate) fn first(fields: Fields<'_>) -> Option<(i128, Fields<'_>)>
     match fields {
         Some(text) => match short(text) {
             Some((number, rest)) => Some((i128::from(number), rest)),
-            None => found(text),
+            None => found_apart(text),
         },
         None => None,
     }

@@ -104,7 +104,7 @@ fn by_word<'a>(word: &[u8], fields: Fields<'a>) -> Line<'a>
 }
 
 /// The line of a text without its line feed.
-#[tactic(auto, using(crate::proofs::LineTexts::line_parted))]
+#[tactic(auto, using(crate::proofs::Lines::line_parted))]
 pub(crate) fn read_line(text: &[u8]) -> Line<'_>
     ensures { view result ≡ line_of text.now }
 {

@@ -1,15 +1,18 @@
 // Rows of an inverse, read into the cells of a matrix.
-ghost use Rattle.std.specs.Prelude.{◌≡◌, ◌≤◌, ◌+◌, ◌-◌, ◌<◌, ◌++◌, ◌∷◌, [], ℤ, List, None, Some, length, true, false, IfOk, OnOk, IfSome, IfNone};
+ghost use Rattle.std.specs.Prelude.{◌≡◌, ◌≤◌, ◌+◌, ◌-◌, ◌<◌, ◌++◌, ◌∷◌, [], ℤ, List, None, Some, length, true, false, IfOk, OnOk, IfSome, IfNone, pos};
+ghost use Rattle.std.specs.List.{slice_split};
 ghost use Rattle.std.specs.Option.{option_map};
 ghost use Rattle.fd_certfile.specs.Blocks.{Sparse, is_place, is_zero, row_at};
 ghost use Rattle.fd_certfile.specs.Cuts.{texts_of};
+ghost use Rattle.fd_certfile.specs.Lines.{is_blank};
 ghost use Rattle.fd_certfile.specs.Numbers.{numbers_of};
-ghost use Rattle.fd_certfile.specs.Readings.{AreSteps, HasNext, IsNext, IsNoNext, IsPut, IsUnput, PushesRow, entries_by, is_between, kept, row_in, zeros};
+ghost use Rattle.fd_certfile.specs.Readings.{AreSteps, HasNext, IsNext, IsNoNext, IsPair, IsPut, IsUnput, PushesRow, entries_by, is_between, kept, row_in, zeros};
 ghost use Rattle.fd_certfile.specs.Views.{view};
 
 use crate::cells::Cells;
 use crate::field::{Fields, first};
 use crate::line::Line;
+use crate::short::short_pair;
 use crate::version::Version;
 use std::alloc::AllocError;
 
@@ -95,9 +98,99 @@ fn push_pair(
     Ok(Some(place + 1))
 }
 
+// The same of a place and an entry in 64 bits.
+#[inline(always)]
+fn push_short_pair(
+    cells: &mut Cells,
+    keep: bool,
+    count: u64,
+    next: u64,
+    place: u64,
+    entry: i64,
+) -> Result<Option<u64>, AllocError>
+    ensures some { IfOk result (λ o. IfSome o (λ behind. IsPut keep count next (pos place) entry behind cells.old cells.new)) }
+    ensures none { IfOk result (λ o. IfNone o (IsUnput count next (pos place) entry)) }
+{
+    if entry == 0 || place < next || place >= count {
+        return Ok(None);
+    }
+    if keep {
+        push_zeros(cells, place - next)?;
+        cells.push_short(entry)?;
+    }
+    Ok(Some(place + 1))
+}
+
+// Adds the entry behind the place that comes first in these fields, where entries are kept, and answers the place
+// behind it and the other fields; or none, where there is none.
+#[inline(never)]
+fn push_long_pair<'a>(
+    cells: &mut Cells,
+    keep: bool,
+    count: u64,
+    next: u64,
+    fields: Fields<'a>,
+) -> Result<Option<(u64, Fields<'a>)>, AllocError>
+    ensures some { IfOk result (λ o. IfSome o (λ p.
+        IsPair keep count next cells.old cells.new
+        (texts_of (option_map (λ t. t.now) fields.entry)) p.0 (texts_of (option_map (λ t. t.now) p.1)))) }
+    ensures none { IfOk result (λ o. IfNone o (IsNoNext Sparse count next (texts_of (option_map (λ t. t.now) fields.entry)))) }
+{
+    match pair(fields) {
+        Some((place, entry, more)) => match push_pair(cells, keep, count, next, place, entry)? {
+            Some(behind) => Ok(Some((behind, more))),
+            None => Ok(None),
+        },
+        None => Ok(None),
+    }
+}
+
+// The same. It is inlined, so that the answer's room is made only where the call is.
+#[inline(always)]
+fn push_pair_apart<'a>(
+    cells: &mut Cells,
+    keep: bool,
+    count: u64,
+    next: u64,
+    fields: Fields<'a>,
+) -> Result<Option<(u64, Fields<'a>)>, AllocError>
+    ensures some { IfOk result (λ o. IfSome o (λ p.
+        IsPair keep count next cells.old cells.new
+        (texts_of (option_map (λ t. t.now) fields.entry)) p.0 (texts_of (option_map (λ t. t.now) p.1)))) }
+    ensures none { IfOk result (λ o. IfNone o (IsNoNext Sparse count next (texts_of (option_map (λ t. t.now) fields.entry)))) }
+{
+    push_long_pair(cells, keep, count, next, fields)
+}
+
+// The same of a text. A pair of few digits is read without looking for the end of the text.
+#[inline(always)]
+fn push_text_pair<'a>(
+    cells: &mut Cells,
+    keep: bool,
+    count: u64,
+    next: u64,
+    text: &'a [u8],
+) -> Result<Option<(u64, Fields<'a>)>, AllocError>
+    ensures some { IfOk result (λ o. IfSome o (λ p.
+        IsPair keep count next cells.old cells.new
+        (slice_split is_blank text.now) p.0 (texts_of (option_map (λ t. t.now) p.1)))) }
+    ensures none { IfOk result (λ o. IfNone o (IsNoNext Sparse count next (slice_split is_blank text.now))) }
+{
+    match short_pair(text) {
+        Some((place, entry, more)) => {
+            match push_short_pair(cells, keep, count, next, place, entry)? {
+                Some(behind) => Ok(Some((behind, Some(more)))),
+                None => Ok(None),
+            }
+        }
+        None => push_pair_apart(cells, keep, count, next, Some(text)),
+    }
+}
+
 // Adds the next entry of a row of so many in a version, where entries are kept, and answers the place behind it and
 // the other fields; or none, where there is none. It stands at the place that comes next, or behind the place that is
 // named, with zeros between.
+#[inline(always)]
 fn push_next<'a>(
     cells: &mut Cells,
     keep: bool,
@@ -120,13 +213,8 @@ fn push_next<'a>(
             }
             None => Ok(None),
         },
-        Version::Sparse => match pair(fields) {
-            Some((place, entry, more)) => {
-                match push_pair(cells, keep, count, next, place, entry)? {
-                    Some(behind) => Ok(Some((behind, more))),
-                    None => Ok(None),
-                }
-            }
+        Version::Sparse => match fields {
+            Some(text) => push_text_pair(cells, keep, count, next, text),
             None => Ok(None),
         },
     }
@@ -140,7 +228,7 @@ fn push_steps(
     keep: bool,
     version: Version,
     count: u64,
-    steps: u128,
+    steps: u64,
     fields: Fields<'_>,
 ) -> Result<bool, AllocError>
     requires { AreSteps version count steps }
@@ -178,12 +266,10 @@ fn push_counted(
         (row_in Sparse count (numbers_of (texts_of (option_map (λ t. t.now) fields.entry))))) }
 {
     match first(fields) {
-        Some((pairs, named)) => {
-            if pairs < 0 {
-                return Ok(false);
-            }
-            push_steps(cells, keep, Version::Sparse, count, pairs as u128, named)
-        }
+        Some((pairs, named)) => match u64::try_from(pairs) {
+            Ok(pairs) => push_steps(cells, keep, Version::Sparse, count, pairs, named),
+            Err(_) => Ok(false),
+        },
         None => Ok(false),
     }
 }
@@ -202,7 +288,7 @@ fn push_fields(
         (row_in version count (numbers_of (texts_of (option_map (λ t. t.now) fields.entry))))) }
 {
     match version {
-        Version::Whole => push_steps(cells, keep, version, count, count as u128, fields),
+        Version::Whole => push_steps(cells, keep, version, count, count, fields),
         Version::Sparse => push_counted(cells, keep, count, fields),
     }
 }

@@ -1,5 +1,6 @@
 // The texts of lines.
-ghost use Rattle.std.specs.Prelude.{◌≡◌, ◌++◌, ◌∷◌, [], IfOk, OnOk, count_by, flat_map, pos};
+ghost use Rattle.std.specs.Prelude.{◌≡◌, ◌≤◌, ◌<◌, ◌+◌, ◌++◌, ◌∷◌, [], IfOk, OnOk, count_by, drop, flat_map, length, pos};
+ghost use Rattle.std.specs.Fmt.{decimal, signed_decimal};
 ghost use Rattle.std.specs.List.{enumerate_from};
 ghost use Rattle.fd_certfile.specs.Blocks.{Sparse, fields_of, is_entry, pair_of};
 ghost use Rattle.fd_certfile.specs.Lines.{end, header, line_bytes, text_by};
@@ -7,8 +8,11 @@ ghost use Rattle.fd_certfile.specs.Lines as line;
 ghost use Rattle.fd_certfile.specs.Texts.{field_text, fields_text};
 
 use fd_outside::{Bytes, Record};
-use itoa::Buffer;
+use itoa::{Buffer, write_digits};
 use std::alloc::{AllocError, Global};
+
+// A place and an entry of 64 bits, each behind a blank, take no more bytes.
+const PAIR_BYTES: usize = 48;
 
 /// Adds a blank and a field.
 pub(crate) fn push_field(text: &mut Vec<u8>, field: &[u8]) -> Result<(), AllocError>
@@ -64,13 +68,61 @@ fn count(row: &[i64]) -> usize
     row.iter().filter(|entry| **entry != 0).count()
 }
 
+// Writes a byte before this place of a buffer, and answers where it stands.
+#[inline(always)]
+fn byte_before(buffer: &mut [u8], at: usize, byte: u8) -> usize
+    requires { (0 < at) × (at ≤ length buffer.old) }
+    ensures at { result + 1 ≡ at }
+    ensures written { drop result buffer.new ≡ byte ∷ drop at buffer.old }
+{
+    buffer[at - 1] = byte;
+    at - 1
+}
+
+// Writes a number before this place of a buffer, and answers where it starts.
+#[inline(always)]
+fn number_before(buffer: &mut [u8], at: usize, number: i64) -> usize
+    requires { (20 ≤ at) × (at ≤ length buffer.old) }
+    ensures at { (result ≤ at) × (at ≤ result + 20) }
+    ensures written { drop result buffer.new ≡ signed_decimal number ++ drop at buffer.old }
+{
+    let start = write_digits(number.unsigned_abs(), buffer, at);
+    if number < 0 {
+        return byte_before(buffer, start, b'-');
+    }
+    start
+}
+
+// Writes a place and an entry, each behind a blank, before this place of a buffer, and answers where they start.
+#[inline(always)]
+fn pair_before(buffer: &mut [u8], at: usize, place: usize, entry: i64) -> usize
+    requires { (42 ≤ at) × (at ≤ length buffer.old) }
+    ensures at { result ≤ at }
+    ensures written { drop result buffer.new ≡ 32 ∷ (decimal place ++ 32 ∷ (signed_decimal entry ++ drop at buffer.old)) }
+{
+    let entry_at = number_before(buffer, at, entry);
+    let blank_at = byte_before(buffer, entry_at, b' ');
+    let place_at = write_digits(place as u64, buffer, blank_at);
+    byte_before(buffer, place_at, b' ')
+}
+
+// Adds a place and an entry, each behind a blank.
+#[tactic(auto, using(crate::proofs::RowTexts::pair_text))]
+#[inline(always)]
+fn push_pair(text: &mut Vec<u8>, place: usize, entry: i64) -> Result<(), AllocError>
+    ensures { OnOk result (text.new.items ≡ text.old.items ++ fields_text (pos place ∷ entry ∷ [])) }
+{
+    let mut buffer = [0; PAIR_BYTES];
+    let start = pair_before(&mut buffer, PAIR_BYTES, place, entry);
+    text.extend_from_slice(&buffer[start..])
+}
+
 // Adds an entry behind its place, unless it is 0.
 fn push_entry(text: &mut Vec<u8>, place: usize, entry: i64) -> Result<(), AllocError>
     ensures { OnOk result (text.new.items ≡ text.old.items ++ fields_text (pair_of (place, entry))) }
 {
     if entry != 0 {
-        push_count(text, place)?;
-        push_short(text, entry)?;
+        push_pair(text, place, entry)?;
     }
     Ok(())
 }

@@ -1,4 +1,4 @@
-use Rattle.std.proofs.Common.{◌≡◌, ◌∙◌, ℕ, List, ℤ, ap, sym, subst}
+use Rattle.std.proofs.Common.{◌∙◌, ℕ, List, ℤ, ap, sym, subst}
 use Rattle.std.proofs.lemmas.Result.{IfOk-weaker}
 use Rattle.fd_settle.specs.fd_mat.Rows.{square}
 use Rattle.fd_settle.specs.fd_cert.Rechecks.{IsBoxed, boxed_claim}

@@ -1,8 +1,8 @@
-use Rattle.std.proofs.Common.{◌≡◌, ◌∙◌, ◌++◌, ◌∷◌, [], List, ℤ, FitsSigned, ap, sym, subst}
+use Rattle.std.proofs.Common.{◌≡◌, ◌∙◌, ◌++◌, ◌∷◌, [], List, ℤ, FitsSigned, ap}
 use Rattle.std.specs.Int.{w64}
 use Rattle.std.proofs.lemmas.Int.{to_z-of_z}
-use Rattle.fd_certfile.specs.Cells.{AreLong, with_longs}
-use Rattle.fd_certfile.proofs.NearCells.{short_long, short_more}
+use Rattle.fd_certfile.specs.Cells.{with_longs}
+use Rattle.fd_certfile.proofs.NearCells.{short_more}
 use Rattle.fd_certfile.proofs.cells.Cells.push_short.Goals as goal
 use Rattle.fd_certfile.proofs.cells.Cells.push_short.Goals.{In_ok-push}
 
