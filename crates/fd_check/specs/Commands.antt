@@ -1,5 +1,5 @@
 -- A script's commands, each accepted by the circuit that those before it made.
-use Rattle.std.specs.Prelude.{ℕ, ◌<◌, ◌-◌, ◌^◌, List, [], ◌∷◌, ◌++◌, length, Result, Ok, Err}
+use Rattle.std.specs.Prelude.{ℕ, ◌<◌, ◌-◌, ◌^◌, ◌==◌, Bool, true, false, List, [], ◌∷◌, ◌++◌, length, Result, Ok, Err, if◌then◌else◌}
 use Rattle.dss_commands.specs.dss_circuit.Circuit.{CircuitView}
 use Rattle.dss_commands.specs.Commands.{applied}
 use Rattle.dss_commands.specs.dss_circuit.Limits.{most_elements}
@@ -42,6 +42,15 @@ solve_in command c = solve_by command.verb (behind_one command c)
 abbrev pub solves_in : CircuitView → List Command → List CircuitView
 solves_in c [] = []
 solves_in c (command ∷ commands) = solve_in command c ++ solves_in (behind_one command c) commands
+
+abbrev pub is_solve : Verb → Bool
+is_solve (verb.Solve pairs) = true
+is_solve other = false
+
+-- the last of the commands is a Solve, and the only one
+abbrev pub solves_last : List Command → Bool
+solves_last [] = false
+solves_last (command ∷ commands) = if is_solve command.verb then length commands == 0 else solves_last commands
 
 -- it is accepted, and the circuit of a Solve passes the tests
 abbrev pub IsAcceptedBy : Verb → Result CircuitView ModelFault → Type 0

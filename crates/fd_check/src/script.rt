@@ -1,12 +1,14 @@
 // A certificate over the Solves of a script.
-ghost use Rattle.std.specs.Prelude.{◌≡◌, ◌+◌, ◌*◌, [], ◌<◌, ◌≤◌, ◌^◌, All, IfErr, IfOk, Ok, OnOk, Some, length};
+ghost use Rattle.std.specs.Prelude.{◌≡◌, ◌+◌, ◌*◌, [], ◌∷◌, ◌<◌, ◌≤◌, ◌^◌, All, IfErr, IfOk, Ok, OnOk, Some, length};
 ghost use Rattle.dss_commands.specs.Commands.{applied};
 ghost use Rattle.dss_commands.specs.dss_circuit.Circuit.{empty_circuit};
 ghost use Rattle.fd_certfile.specs.Verdict.{IsAnswer, accepted};
+ghost use Rattle.fd_daily.specs.Underway.{no_positions};
+ghost use Rattle.fd_daily.specs.dss_ready.Ready.{HasPassed};
 ghost use Rattle.fd_daily.specs.fd_xfmr.Leakage.{AreTaps};
-ghost use Rattle.fd_check.specs.Checking.{after, due};
+ghost use Rattle.fd_check.specs.Checking.{after, due, open_solves};
 ghost use Rattle.fd_check.specs.Comes.{Comes, LeadsForAll, Tells, TellsForAll};
-ghost use Rattle.fd_check.specs.Commands.{AreAccepted, HasRoom, IsAcceptedBy, behind_one, most_solves, solve_in, solves_in};
+ghost use Rattle.fd_check.specs.Commands.{AreAccepted, HasRoom, IsAcceptedBy, behind_all, behind_one, is_solve, most_solves, solve_in, solves_in, solves_last};
 ghost use Rattle.fd_check.specs.Hours.{script_open, solves_open};
 
 use crate::ending::check_end;
@@ -19,14 +21,20 @@ use std::alloc::Global;
 
 /// Checks a certificate over the Solves of a script, whose commands these are in order; and gives the number of its blocks
 /// where it is accepted. Each command was accepted by the circuit that the commands before it made from none, and the
-/// circuit of each Solve passed the tests. The commands are done again one by one, so there is one circuit and one network
-/// at a time.
+/// circuit of each Solve passed the tests. The circuit that all of them made is given too: where the last command is the
+/// only Solve, it is that Solve's; else they are done again one by one, so there is one network at a time.
 ///
 /// # Errors
 /// `Refused` at the first rule that the certificate breaks, with the line that it names; `Range` where the network of the
 /// block that is due is out of range, and the blocks before it break no rule; `NoMemory`.
-pub fn check_script(alloc: Global, commands: &[Command], bytes: &[u8]) -> Result<u64, CheckFault>
+pub fn check_script(
+    alloc: Global,
+    commands: &[Command],
+    circuit: &Circuit,
+    bytes: &[u8],
+) -> Result<u64, CheckFault>
     requires accepted { AreAccepted empty_circuit commands.now }
+    requires made { circuit.now ≡ behind_all empty_circuit commands.now }
     requires few { length (solves_in empty_circuit commands.now) ≤ most_solves }
     ensures accepted { IfOk result (λ count. IsAnswer due after (Some bytes.now) (script_open commands.now) (accepted count)) }
     ensures refused { IfErr result (λ fault. Tells fault (IsAnswer due after (Some bytes.now) (script_open commands.now))) }
@@ -34,9 +42,77 @@ pub fn check_script(alloc: Global, commands: &[Command], bytes: &[u8]) -> Result
     match CertReader::open(alloc, bytes) {
         Ok(reader) => {
             let mut reader = reader;
-            check_commands(alloc, commands, &mut reader)
+            check_solves(alloc, commands, circuit, &mut reader)
         }
         Err(fault) => Err(CheckFault::from(fault)),
+    }
+}
+
+// Checks what is left of a certificate over the Solves of these commands, which made this circuit.
+fn check_solves(
+    alloc: Global,
+    commands: &[Command],
+    circuit: &Circuit,
+    reader: &mut CertReader<'_>,
+) -> Result<u64, CheckFault>
+    requires accepted { AreAccepted empty_circuit commands.now }
+    requires made { circuit.now ≡ behind_all empty_circuit commands.now }
+    requires few { length (solves_in empty_circuit commands.now) ≤ most_solves }
+    ensures accepted { IfOk result (λ count. Comes reader.old (script_open commands.now) (accepted count)) }
+    ensures refused { IfErr result (λ fault. Tells fault (Comes reader.old (script_open commands.now))) }
+{
+    if solves_last(commands) {
+        check_circuit(alloc, circuit, reader)
+    } else {
+        check_commands(alloc, commands, reader)
+    }
+}
+
+// Whether a command is a Solve.
+fn is_solve(command: &Command) -> bool
+    ensures { result ≡ is_solve command.now.verb }
+{
+    match command.verb {
+        Verb::Solve { .. } => true,
+        Verb::New { .. } | Verb::Edit { .. } | Verb::Set { .. } | Verb::Clear | Verb::Bases =>
+            false,
+    }
+}
+
+// Whether the last of these commands is a Solve, and the only one.
+fn solves_last(commands: &[Command]) -> bool
+    ensures { result ≡ solves_last commands.now }
+{
+    let mut left = commands.len();
+    for command in commands {
+        left -= 1;
+        if is_solve(command) {
+            return left == 0;
+        }
+    }
+    false
+}
+
+// Checks what is left of a certificate over one Solve of this circuit.
+fn check_circuit(
+    alloc: Global,
+    circuit: &Circuit,
+    reader: &mut CertReader<'_>,
+) -> Result<u64, CheckFault>
+    requires { HasPassed circuit.now }
+    ensures accepted { IfOk result (λ count.
+        Comes reader.old (open_solves (circuit.now ∷ []) no_positions 0) (accepted count)) }
+    ensures refused { IfErr result (λ fault.
+        Tells fault (Comes reader.old (open_solves (circuit.now ∷ []) no_positions 0))) }
+{
+    let mut at = Positions {
+        taps: Taps::new(Vec::new(alloc)),
+        closed: BankStates::new(Vec::new(alloc)),
+    };
+    let mut settled = 0;
+    match check_solve(alloc, circuit, &mut at, &mut settled, reader) {
+        Ok(()) => check_end(reader),
+        Err(fault) => Err(fault),
     }
 }
 

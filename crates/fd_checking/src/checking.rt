@@ -120,7 +120,7 @@ impl Line for Gathered {
             Err(LibFault::Failed) => return print_unread(alloc, &self.certificate, out),
             Err(LibFault::NoMemory) => return WANT_OF_MEMORY,
         };
-        answer_found(alloc, self.commands.as_slice(), found, out)
+        answer_found(alloc, self.commands.as_slice(), &self.circuit, found, out)
     }
 }
 

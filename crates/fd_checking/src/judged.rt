@@ -2,7 +2,7 @@
 ghost use Rattle.std.specs.Prelude.{◌≡◌, ◌≤◌, IfOk, List, length, true, ℕ};
 ghost use Rattle.fd_check.specs.dss_circuit.Circuit.{CircuitView, empty_circuit};
 ghost use Rattle.fd_solving.specs.dss_script.Sessions.{found_bytes};
-ghost use Rattle.fd_check.specs.Commands.{AreAccepted, most_solves};
+ghost use Rattle.fd_check.specs.Commands.{AreAccepted, behind_all, most_solves};
 ghost use Rattle.fd_solving.specs.fd_outcome.Calls.{doing, report};
 ghost use Rattle.fd_solving.specs.fd_outcome.Parts.{Printed};
 ghost use Rattle.fd_check.specs.fd_outside.Causes.{Rose};
@@ -10,7 +10,7 @@ ghost use Rattle.fd_checking.specs.Checks.{IsJudged, gathered};
 ghost use Rattle.fd_checking.specs.Gathered.{solved_by};
 ghost use Rattle.fd_checking.specs.Judged.{IsAnsweredSo, IsJudgedBy, IsOfCheck, history_in};
 
-use fd_check::{CheckFault, Command, Found, Rule, Sink, check_script};
+use fd_check::{CheckFault, Circuit, Command, Found, Rule, Sink, check_script};
 use fd_solving::{Cause, Fault, WANT_OF_MEMORY, accepted_record, print_end, print_fault};
 use std::alloc::{AllocError, Global};
 
@@ -38,16 +38,25 @@ fn judged_by(answer: Result<u64, CheckFault>) -> Result<Judged, AllocError>
     }
 }
 
-// Judges what was found under the name of the certificate on the networks of the Solves of these commands.
-fn judge(alloc: Global, commands: &[Command], found: Found) -> Result<Judged, AllocError>
+// Judges what was found under the name of the certificate on the networks of the Solves of these commands, which made
+// this circuit.
+fn judge(
+    alloc: Global,
+    commands: &[Command],
+    circuit: &Circuit,
+    found: Found,
+) -> Result<Judged, AllocError>
     requires accepted { AreAccepted empty_circuit commands.now }
+    requires made { circuit.now ≡ behind_all empty_circuit commands.now }
     requires few { length (solved_by commands.now) ≤ most_solves }
     ensures judged { (c : CircuitView) (name : List ℕ) →
         IfOk result (λ j. IsJudged (gathered c (solved_by commands.now) name) (found_bytes found) (history_in j)) }
     ensures command { IfOk result IsOfCheck }
 {
     match found {
-        Found::Bytes(bytes) => judged_by(check_script(alloc, commands, bytes.as_slice())),
+        Found::Bytes(bytes) => {
+            judged_by(check_script(alloc, commands, circuit, bytes.as_slice()))
+        }
         Found::Absent => judged_by(Err(CheckFault::Refused {
             line: 0,
             rule: Rule::Absent,
@@ -70,22 +79,24 @@ fn print_judged<S: Sink>(alloc: Global, judged: &Judged, out: &mut S) -> u8
     }
 }
 
-/// Judges what was found under the name of the certificate on the networks of the Solves of these commands, prints the
-/// answer, and answers the exit status.
+/// Judges what was found under the name of the certificate on the networks of the Solves of these commands, which made
+/// this circuit, prints the answer, and answers the exit status.
 pub(crate) fn answer_found<S: Sink>(
     alloc: Global,
     commands: &[Command],
+    circuit: &Circuit,
     found: Found,
     out: &mut S,
 ) -> u8
     requires accepted { AreAccepted empty_circuit commands.now }
+    requires made { circuit.now ≡ behind_all empty_circuit commands.now }
     requires few { length (solved_by commands.now) ≤ most_solves }
     ensures answers { (c : CircuitView) (name : List ℕ) →
         IsAnsweredSo S.taken S.calls out.old out.new (gathered c (solved_by commands.now) name) (found_bytes found) result }
     ensures later { S.faults out.old ≤ S.faults out.new }
     ensures write { result ≡ 5 → Rose (S.faults out.old) (S.faults out.new) }
 {
-    match judge(alloc, commands, found) {
+    match judge(alloc, commands, circuit, found) {
         Ok(judged) => print_judged(alloc, &judged, out),
         Err(_) => WANT_OF_MEMORY,
     }
