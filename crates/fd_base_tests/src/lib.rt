@@ -33,4 +33,6 @@ mod slope;
 #[cfg(test)]
 mod source;
 #[cfg(test)]
+mod substitution;
+#[cfg(test)]
 mod xfmr;

@@ -29,3 +29,7 @@ mod row;
 pub use elimination::factors;
 pub use fault::FactorFault;
 pub use pair::Pair;
+
+// Handed on from the crates below.
+pub use fd_derived::{Claim, Entry, Equation, Refusal, Row, check};
+pub use fd_mat::near_quotient;

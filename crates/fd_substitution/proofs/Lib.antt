@@ -1,0 +1,5 @@
+pub mod Sizes
+pub mod Fronts
+pub mod Filling
+pub mod Rows
+pub mod CallerLemmas

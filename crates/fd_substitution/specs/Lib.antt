@@ -1,0 +1,3 @@
+pub mod Sums
+pub mod Substitution
+pub use Rattle.fd_triangles.specs as fd_triangles
