@@ -14,7 +14,6 @@ use Rattle.fd_outcome.specs.fd_report.declared.faults.Fault.{Fault}
 use Rattle.fd_outcome.specs.fd_settle.declared.round.Round.{Round as Made}
 use Rattle.fd_outcome.specs.fd_settle.Rounds.{seen}
 use Rattle.fd_outcome.specs.fd_settle.Start.{ArePositions}
-use Rattle.fd_outcome.specs.Certificates.{block_in, block_texts}
 use Rattle.fd_outcome.specs.Pages.{solution_in}
 use Rattle.fd_outcome.specs.Settles.{Round, Settle, SettleEnd, failed, round_of, without_certificate}
 
@@ -75,8 +74,3 @@ pub record IsPrintable (c : CircuitView) (hour : ℕ) (rounds : List Made) (at :
 abbrev pub IsTriedOf : ℕ → Option Certified → Type 0
 IsTriedOf size None = Unit {0}
 IsTriedOf size (Some tried) = IsClaimOf size (claim_in tried)
-
--- the text of each line of its block, behind so many rounds
-abbrev pub last_texts : Settle → ℕ → Option Certified → List (List ℕ)
-last_texts s k None = []
-last_texts s k (Some tried) = block_texts (block_in s k (round_of (claim_in tried) []))

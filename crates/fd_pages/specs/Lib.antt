@@ -1,4 +1,5 @@
 pub mod Hours
+pub mod Rounds
 pub mod Places
 pub mod Bases
 pub mod Lines

@@ -2,10 +2,12 @@
 //!
 //! A way to print is a `Page`, with the style that it prints in. It gives the texts of an hour's settle, as the code
 //! made it, and of the voltage bases of a circuit's buses, which are exactly those of the style; what opens them; and
-//! what stands last. Nothing is written here.
+//! what stands last. A settle's texts come in parts, those that each round has by itself and the last ones, so that one
+//! block of a certificate is held at a time. Nothing is written here.
 //!
-//! Specs: `Hours`: the settle of an hour, as the code made it, and what of it can be printed; `Bases`: voltage bases
-//! as events; `Lines`: the style of lines of text alone; `Places`: where controls stand among a circuit's elements.
+//! Specs: `Hours`: the settle of an hour, as the code made it, and what of it can be printed; `Rounds`: its texts in
+//! parts; `Bases`: voltage bases as events; `Lines`: the style of lines of text alone; `Places`: where controls stand
+//! among a circuit's elements.
 //!
 //! - `page`: a way to print settles
 //! - `controls`: the controls of a circuit

@@ -1,11 +1,13 @@
 // Settles printed as a report.
 ghost use Rattle.fd_outcome.specs.Calls.{report};
+ghost use Rattle.fd_outcome.specs.Events.{settle};
+ghost use Rattle.fd_pages.specs.Rounds.{no_texts};
 
 use crate::page::{Page, SolvedHour};
 use crate::pending::pending_records;
 use crate::records::{base_records, failed_records, settled_records};
 use fd_bases::Circuit;
-use fd_outcome::{Certified, Entry, Record};
+use fd_outcome::{Certified, Entry, Record, Round};
 use fd_settings::Positions;
 use std::alloc::{AllocError, Global};
 
@@ -14,6 +16,10 @@ pub struct Report;
 
 impl Page for Report {
     ghost style = { report };
+
+    ghost round_texts = { no_texts };
+
+    ghost last_texts = { λ s. report.texts_in (settle s) };
 
     fn opening(alloc: Global) -> Result<Vec<Record>, AllocError> {
         Ok(Vec::new(alloc))
@@ -35,6 +41,15 @@ impl Page for Report {
         entries: &[Entry],
     ) -> Result<Vec<Record>, AllocError> {
         pending_records(alloc, circuit, entries)
+    }
+
+    fn round(
+        alloc: Global,
+        _made: &SolvedHour<'_>,
+        _place: u32,
+        _round: &Round,
+    ) -> Result<Vec<Record>, AllocError> {
+        Ok(Vec::new(alloc))
     }
 
     fn settled(

@@ -5,8 +5,10 @@ ghost use Rattle.fd_fault.specs.dss_layout.Layout.{first_branch, layout_of, size
 ghost use Rattle.fd_fault.specs.dss_ready.Ready.{HasPassed};
 ghost use Rattle.fd_solving.specs.fd_network.Built.{IsBuiltOf};
 ghost use Rattle.fd_solving.specs.fd_outside.Emitted.{pieces_of};
+ghost use Rattle.fd_solving.specs.fd_outcome.Events.{settle};
 ghost use Rattle.fd_solving.specs.fd_outcome.Pages.{solution_in};
 ghost use Rattle.fd_solving.specs.fd_pages.Hours.{IsPrintable, round_in, rounds_in};
+ghost use Rattle.fd_solving.specs.fd_pages.Rounds.{no_texts};
 ghost use Rattle.fd_solving.specs.fd_report.Lines.{lines_of};
 ghost use Rattle.fd_solving.specs.fd_report.Shorts.{short_records};
 ghost use Rattle.fd_solving.specs.fd_report.Solutions.{IsOfSize};
@@ -106,6 +108,10 @@ fn phase_records(alloc: Global, made: &SolvedHour<'_>) -> Result<Vec<Record>, Al
 impl Page for ShortReport {
     ghost style = { short_report };
 
+    ghost round_texts = { no_texts };
+
+    ghost last_texts = { λ s. short_report.texts_in (settle s) };
+
     fn opening(alloc: Global) -> Result<Vec<Record>, AllocError> {
         Ok(Vec::new(alloc))
     }
@@ -126,6 +132,15 @@ impl Page for ShortReport {
         entries: &[Entry],
     ) -> Result<Vec<Record>, AllocError> {
         Report::pending(alloc, circuit, entries)
+    }
+
+    fn round(
+        alloc: Global,
+        made: &SolvedHour<'_>,
+        place: u32,
+        round: &Round,
+    ) -> Result<Vec<Record>, AllocError> {
+        Report::round(alloc, made, place, round)
     }
 
     fn settled(

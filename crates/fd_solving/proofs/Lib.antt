@@ -7,6 +7,7 @@ mod Settled
 pub mod Tests
 mod Hourly
 pub mod Handed
+mod Parted
 pub mod Beside
 pub mod Weights
 pub mod Scripts

@@ -1,7 +1,9 @@
 // Records handed to the sink.
-ghost use Rattle.std.specs.Prelude.{◌≡◌, ◌++◌, ◌∷◌, [], ◌||◌, ◌+◌, ◌≤◌, Bool, IfNone, IfOk, IfSome, None, Some, map, true};
+ghost use Rattle.std.specs.Prelude.{◌≡◌, ◌++◌, ◌∷◌, [], ◌||◌, ◌+◌, ◌^◌, ◌<◌, ◌≤◌, All, Bool, IfNone, IfOk, IfSome};
+ghost use Rattle.std.specs.Prelude.{None, Some, length, map, true};
 ghost use Rattle.fd_pages.specs.fd_outside.Causes.{Rose};
 ghost use Rattle.fd_pages.specs.fd_outside.Emitted.{pieces_of};
+ghost use Rattle.fd_pages.specs.fd_certfile.Rounds.{IsRoundOf};
 ghost use Rattle.fd_pages.specs.dss_layout.Layout.{layout_of, size_of};
 ghost use Rattle.fd_daily.specs.fd_network.Built.{IsBuiltOf};
 ghost use Rattle.fd_daily.specs.fd_sample.Circuits.{probes_of};
@@ -11,8 +13,9 @@ ghost use Rattle.fd_pages.specs.fd_outcome.Calls.{body, fault_text, opened, writ
 ghost use Rattle.fd_pages.specs.fd_outcome.Events.{waits};
 ghost use Rattle.fd_pages.specs.fd_outcome.Parts.{IsCutIn, Printed, Wrote, fault_doing};
 ghost use Rattle.fd_pages.specs.fd_outcome.Way.{whole};
-ghost use Rattle.fd_pages.specs.fd_outcome.Settles.{settled};
-ghost use Rattle.fd_pages.specs.Hours.{IsPrintable, IsTriedOf, settle_made, end_with, Kept};
+ghost use Rattle.fd_pages.specs.fd_outcome.Settles.{Settle, settled};
+ghost use Rattle.fd_pages.specs.Hours.{IsPrintable, IsSettleAt, IsTriedOf, rounds_in, settle_made, Kept};
+ghost use Rattle.fd_pages.specs.Rounds.{rounds_texts};
 ghost use Rattle.fd_pages.specs.Bases.{base_events};
 ghost use Rattle.fd_solving.specs.Endings.{end_by};
 ghost use Rattle.fd_solving.specs.Printing.{begun_behind, settle_calls};
@@ -45,14 +48,11 @@ pub fn print_fault<S: Sink>(alloc: Global, fault: &Fault, out: &mut S) -> u8
     }
 }
 
-// Whether a text was written before, or is among these.
+// Whether a text is among these.
 #[tactic(auto, using(crate::proofs::Handed::some_text))]
-fn now_begun(begun: bool, records: &[Record]) -> bool
-    ensures { result ≡ (begun || has_text (map writes (pieces_of records.now))) }
+fn has_text(records: &[Record]) -> bool
+    ensures { result ≡ has_text (map writes (pieces_of records.now)) }
 {
-    if begun {
-        return true;
-    }
     match records {
         [] => false,
         [_, ..] => true,
@@ -63,7 +63,7 @@ fn now_begun(begun: bool, records: &[Record]) -> bool
 fn opened<P: Page>(alloc: Global, texts: Vec<Record>) -> Result<Vec<Record>, AllocError>
     ensures { IfOk result (λ r. map writes (pieces_of r.items) ≡ opened P.style.opening (map writes (pieces_of texts.items))) }
 {
-    if now_begun(false, texts.as_slice()) {
+    if has_text(texts.as_slice()) {
         let mut texts = texts;
         let mut all = P::opening(alloc)?;
         all.append(&mut texts)?;
@@ -88,7 +88,8 @@ fn with_opening<P: Page>(
     }
 }
 
-// Prints texts, with what opens them. An answer ends the run. `begun` tells whether a text was written before.
+// Prints texts, with what opens them. An answer ends the run, and only where there is a text. `begun` tells whether one
+// was written before.
 fn print_texts<P: Page, S: Sink>(
     alloc: Global,
     texts: Vec<Record>,
@@ -99,16 +100,19 @@ fn print_texts<P: Page, S: Sink>(
         (whole (opened_unless begun.old P.style.opening (map writes (pieces_of texts.items))))) }
     ensures begun { result ≡ None → begun.new ≡ (begun.old || has_text (map writes (pieces_of texts.items))) }
     ensures ends { IfSome result (IsCutIn S.taken S.calls out.old out.new (opened_unless begun.old P.style.opening (map writes (pieces_of texts.items)))) }
+    ensures some { IfSome result (λ _. pieces_of texts.items ≡ [] → ⊥) }
     ensures later { S.faults out.old ≤ S.faults out.new }
     ensures write { IfSome result (λ code. code ≡ 5 → Rose (S.faults out.old) (S.faults out.new)) }
 {
-    let now = now_begun(*begun, texts.as_slice());
+    if !has_text(texts.as_slice()) {
+        return None;
+    }
     let Ok(texts) = with_opening::<P>(alloc, *begun, texts) else {
         return Some(WANT_OF_MEMORY);
     };
     match emit(alloc, texts.as_slice(), out) {
         Ok(()) => {
-            *begun = now;
+            *begun = true;
             None
         }
         Err(SinkFault::Failed) => Some(WRITE_FAULT),
@@ -158,6 +162,41 @@ pub(crate) fn print_pending<P: Page, S: Sink>(
     print_texts::<P, S>(alloc, texts, begun, out)
 }
 
+// Prints the texts that the rounds of an hour have by themselves, each round's before the next one's are made. An
+// answer ends the run. `begun` tells whether a text was written before.
+fn print_rounds<P: Page, S: Sink>(
+    alloc: Global,
+    made: &SolvedHour<'_>,
+    begun: &mut bool,
+    out: &mut S,
+) -> Option<u8>
+    requires network { IsBuiltOf made.now.net.now made.now.circuit.now }
+    requires numbers { All (IsRoundOf (size_of (layout_of made.now.circuit.now.elements))) made.now.rounds.now }
+    requires few { length made.now.rounds.now < 2 ^ 32 }
+    ensures goes { (s : Settle) → IsSettleAt made.now.circuit.now made.now.number made.now.hour s
+        → IfNone result (Wrote S.taken S.calls out.old out.new (whole (opened_unless begun.old P.style.opening
+        (map writes (rounds_texts P.round_texts s 0 (rounds_in made.now.rounds.now)))))) }
+    ensures begun { (s : Settle) → IsSettleAt made.now.circuit.now made.now.number made.now.hour s → result ≡ None →
+        begun.new ≡ (begun.old
+        || has_text (map writes (rounds_texts P.round_texts s 0 (rounds_in made.now.rounds.now)))) }
+    ensures ends { (s : Settle) → IsSettleAt made.now.circuit.now made.now.number made.now.hour s
+        → IfSome result (IsCutIn S.taken S.calls out.old out.new (opened_unless begun.old P.style.opening
+        (map writes (rounds_texts P.round_texts s 0 (rounds_in made.now.rounds.now))))) }
+    ensures later { S.faults out.old ≤ S.faults out.new }
+    ensures write { IfSome result (λ code. code ≡ 5 → Rose (S.faults out.old) (S.faults out.new)) }
+{
+    for (place, round) in made.rounds.iter().enumerate() {
+        let Ok(texts) = P::round(alloc, made, place as u32, round) else {
+            return Some(WANT_OF_MEMORY);
+        };
+        let ended = print_texts::<P, S>(alloc, texts, begun, out);
+        if ended.is_some() {
+            return ended;
+        }
+    }
+    None
+}
+
 /// Prints an hour's settle that ended well, at these positions. An answer ends the run. `begun` tells whether a text was
 /// written before.
 pub(crate) fn print_settled<P: Page, S: Sink>(
@@ -182,33 +221,15 @@ pub(crate) fn print_settled<P: Page, S: Sink>(
     ensures write { IfSome result (λ code. code ≡ 5 → Rose (S.faults out.old) (S.faults out.new)) }
 {
     P::law();
+    // made first: where memory runs out for them, nothing is printed
     let Ok(texts) = P::settled(alloc, made, at) else {
         return Some(WANT_OF_MEMORY);
     };
+    let ended = print_rounds::<P, S>(alloc, made, begun, out);
+    if ended.is_some() {
+        return ended;
+    }
     print_texts::<P, S>(alloc, texts, begun, out)
-}
-
-// The texts of an hour's settle that ended with a fault, with what opens them, and the fault's record.
-fn failed_texts<P: Page>(
-    alloc: Global,
-    made: &SolvedHour<'_>,
-    tried: Option<Certified>,
-    fault: &Fault,
-    at: &Positions,
-    begun: bool,
-) -> Result<Vec<Record>, AllocError>
-    requires network { IsBuiltOf made.now.net.now made.now.circuit.now }
-    requires printable { IsPrintable made.now.circuit.now made.now.hour made.now.rounds.now (positions_in at.now) }
-    requires tried { IsTriedOf (size_of (layout_of made.now.circuit.now.elements)) tried }
-    ensures { (l : Kept) → made.now.number ≡ l.settled + 1 → IfOk result (λ r.
-        map writes (pieces_of r.items) ≡ settle_calls P.style begun (settle_made made.now.circuit.now made.now.hour l
-        made.now.rounds.now (end_with fault.now tried) (positions_in at.now)) ++ writes (fault_text fault.now) ∷ []) }
-{
-    P::law();
-    let texts = P::failed(alloc, made, tried, at)?;
-    let mut texts = with_opening::<P>(alloc, begun, texts)?;
-    texts.push(record(alloc, fault)?)?;
-    Ok(texts)
 }
 
 /// Prints an hour's settle that ended with a failure, and then its fault, and answers the exit status. `begun` tells
@@ -233,15 +254,19 @@ pub(crate) fn print_failed<P: Page, S: Sink>(
     ensures later { S.faults out.old ≤ S.faults out.new }
     ensures write { result ≡ 5 → Rose (S.faults out.old) (S.faults out.new) }
 {
+    P::law();
     let Failure { fault, tried } = failure;
-    let Ok(texts) = failed_texts::<P>(alloc, made, tried, &fault, at, begun) else {
+    let mut begun = begun;
+    if let Some(code) = print_rounds::<P, S>(alloc, made, &mut begun, out) {
+        return code;
+    }
+    let Ok(texts) = P::failed(alloc, made, tried, at) else {
         return WANT_OF_MEMORY;
     };
-    match emit(alloc, texts.as_slice(), out) {
-        Ok(()) => status(&fault),
-        Err(SinkFault::Failed) => WRITE_FAULT,
-        Err(SinkFault::NoMemory) => WANT_OF_MEMORY,
+    if let Some(code) = print_texts::<P, S>(alloc, texts, &mut begun, out) {
+        return code;
     }
+    print_fault(alloc, &fault, out)
 }
 
 // The texts that stand last, with what opens them.

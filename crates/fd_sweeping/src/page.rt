@@ -7,9 +7,11 @@ ghost use Rattle.fd_solving.specs.dss_ready.Ready.{HasPassed};
 ghost use Rattle.fd_solving.specs.fd_cert.Claims.{claim_in};
 ghost use Rattle.fd_solving.specs.fd_certfile.Rounds.{IsClaimOf, IsRoundOf};
 ghost use Rattle.fd_solving.specs.fd_enclosure.Sound.{Claim};
+ghost use Rattle.fd_solving.specs.fd_outcome.Events.{settle};
 ghost use Rattle.fd_solving.specs.fd_outcome.Pages.{report_texts, solution_in};
 ghost use Rattle.fd_solving.specs.fd_outside.Emitted.{pieces_of};
 ghost use Rattle.fd_solving.specs.fd_pages.Hours.{rounds_in};
+ghost use Rattle.fd_solving.specs.fd_pages.Rounds.{no_texts};
 ghost use Rattle.fd_solving.specs.fd_report.Solutions.{IsOfSize};
 ghost use Rattle.fd_solving.specs.fd_network.Built.{IsBuiltOf};
 ghost use Rattle.fd_solving.specs.fd_xfmr.Leakage.{AreTaps};
@@ -19,7 +21,7 @@ ghost use Rattle.fd_sweeping.specs.Pages.{ladder_report, sweep_beside, sweep_eve
 
 use crate::beside::ladder_of;
 use fd_solving::{
-    BuildFault, Certified, Circuit, Entry, Ladder, Network, Page, Positions, Record, Report,
+    BuildFault, Certified, Circuit, Entry, Ladder, Network, Page, Positions, Record, Report, Round,
     SolvedHour, hours_law, ladder_record, next_law, next_positions, no_positions, powers_at,
 };
 use fd_sweep::{LadderFault, sweep};
@@ -115,6 +117,10 @@ fn sweep_records(alloc: Global, made: &SolvedHour<'_>) -> Result<Vec<Record>, Al
 impl Page for LadderReport {
     ghost style = { ladder_report };
 
+    ghost round_texts = { no_texts };
+
+    ghost last_texts = { λ s. ladder_report.texts_in (settle s) };
+
     fn opening(alloc: Global) -> Result<Vec<Record>, AllocError> {
         Ok(Vec::new(alloc))
     }
@@ -135,6 +141,15 @@ impl Page for LadderReport {
         entries: &[Entry],
     ) -> Result<Vec<Record>, AllocError> {
         Report::pending(alloc, circuit, entries)
+    }
+
+    fn round(
+        alloc: Global,
+        made: &SolvedHour<'_>,
+        place: u32,
+        round: &Round,
+    ) -> Result<Vec<Record>, AllocError> {
+        Report::round(alloc, made, place, round)
     }
 
     fn settled(

@@ -1,38 +1,78 @@
-use Rattle.std.proofs.Common.{◌∙◌, true, [], Some, map, ap}
+use Rattle.std.proofs.Common.{◌≡◌, ◌∙◌, [], refl, sym, ap}
+use Rattle.std.proofs.lemmas.List.{append-nil}
 use Rattle.fd_pages.specs.fd_outside.Emitted.{pieces_of}
-use Rattle.fd_pages.specs.fd_outcome.Calls.{fault_text, writes}
-use Rattle.fd_pages.proofs.CallerLemmas.fd_outcome.{cut_before, cut_by_fault, cut_by_memory, not_empty}
-use Rattle.fd_solving.proofs.Handed.{cut_as, failed_whole, printed_cut}
+use Rattle.fd_pages.proofs.CallerLemmas.fd_outcome.{cut_before}
+use Rattle.fd_daily.specs.fd_sample.Probes.{positions_in}
+use Rattle.fd_pages.specs.Hours.{IsSettleAt, end_with, rounds_in, settle_made}
+use Rattle.fd_pages.specs.Rounds.{rounds_texts}
+use Rattle.fd_solving.proofs.Parted.{failed_cut, failed_printed, rounds_written, written_more, written_none}
 use Rattle.fd_solving.proofs.print.print_failed.Goals as goal
 
-pub returns-in_default-clause-prints : goal.returns-in_default-clause-prints
-returns-in_default-clause-prints g c l number =
-    printed_cut g.S.Sink.taken g.S.Sink.calls true c.args.out.now c.args.out.now _ (Some c.args.failure.fault) 1
-    (λ told none. not_empty _ (writes (fault_text c.args.failure.fault)) [] none)
-    (cut_before g.S.Sink.taken g.S.Sink.calls c.args.out.now _)
+pub returns-in-Some-clause-prints : goal.returns-in-Some-clause-prints
+returns-in-Some-clause-prints g c l number =
+    let made = c.args.made.now in
+    let f = c.args.failure.fault in
+    let x = settle_made made.circuit.now made.hour l made.rounds.now (end_with f c.args.failure.tried)
+    (positions_in c.args.at.now) in
+    let at : IsSettleAt made.circuit.now made.number made.hour x =
+    record { circuit_is = refl; number_is = sym number; hour_is = refl } in
+    failed_cut g.S.Sink.taken g.S.Sink.calls g.P.Page.style c.args.begun x (c.law.ensures.silent x) c.args.out.now
+    c.args.out.now c.print_rounds.new.out c.args.begun
+    (rounds_texts g.P.Page.round_texts x 0 (rounds_in made.rounds.now)) (g.P.Page.last_texts x) _ f c.in-Some.code
+    (sym (c.law.ensures.parts x))
+    (written_none g.S.Sink.taken g.S.Sink.calls g.P.Page.style.opening c.args.begun c.args.out.now _)
+    (c.in-Some.ensures.ends x at)
 
-pub returns-in-Ok-emit-clause-prints : goal.returns-in-Ok-emit-clause-prints
-returns-in-Ok-emit-clause-prints g c l number =
-    failed_whole g.S.Sink.taken g.S.Sink.calls c.args.out.now c.emit.new.out
-    (pieces_of c.as_slice.result.now) _ c.args.failure.fault c.status.result
-    (ap (λ rs. map writes (pieces_of rs)) c.as_slice.ensures.value ∙ c.in-Ok.ensures l number) c.status.ensures
-    c.in-Ok-emit.ensures.ok
+pub returns-in_default-failed-clause-prints : goal.returns-in_default-failed-clause-prints
+returns-in_default-failed-clause-prints g c l number =
+    let made = c.args.made.now in
+    let f = c.args.failure.fault in
+    let x = settle_made made.circuit.now made.hour l made.rounds.now (end_with f c.args.failure.tried)
+    (positions_in c.args.at.now) in
+    let at : IsSettleAt made.circuit.now made.number made.hour x =
+    record { circuit_is = refl; number_is = sym number; hour_is = refl } in
+    let w = rounds_written g.S.Sink.taken g.S.Sink.calls g.P.Page.style.opening c.args.begun c.args.out.now
+    c.print_rounds.new.out c.print_rounds.new.begun (rounds_texts g.P.Page.round_texts x 0 (rounds_in made.rounds.now))
+    (g.P.Page.last_texts x) _ (c.law.ensures.parts x) (c.in_default.ensures.goes x at)
+    (c.in_default.ensures.begun x at refl) in
+    failed_cut g.S.Sink.taken g.S.Sink.calls g.P.Page.style c.args.begun x (c.law.ensures.silent x) c.args.out.now
+    c.print_rounds.new.out c.print_rounds.new.out c.print_rounds.new.begun (g.P.Page.last_texts x) [] _ f 1
+    (sym (append-nil (g.P.Page.last_texts x))) w (cut_before g.S.Sink.taken g.S.Sink.calls c.print_rounds.new.out _)
 
-pub returns-in-Err-Failed-clause-prints : goal.returns-in-Err-Failed-clause-prints
-returns-in-Err-Failed-clause-prints g c l number =
-    let torn = rw c.in-Err-Failed.field-0-is at c.in-Err-Failed.ensures.emits in
-    printed_cut g.S.Sink.taken g.S.Sink.calls true c.args.out.now c.emit.new.out _ (Some c.args.failure.fault) 5
-    (λ told none. not_empty _ (writes (fault_text c.args.failure.fault)) [] none)
-    (cut_as g.S.Sink.taken g.S.Sink.calls c.args.out.now c.emit.new.out _ _ 5
-    (ap (λ rs. map writes (pieces_of rs)) c.as_slice.ensures.value ∙ c.in-Ok.ensures l number)
-    (cut_by_fault g.S.Sink.taken g.S.Sink.calls c.args.out.now c.emit.new.out (pieces_of c.as_slice.result.now) torn))
+pub returns-in-Some-print_texts-clause-prints : goal.returns-in-Some-print_texts-clause-prints
+returns-in-Some-print_texts-clause-prints g c l number =
+    let made = c.args.made.now in
+    let f = c.args.failure.fault in
+    let x = settle_made made.circuit.now made.hour l made.rounds.now (end_with f c.args.failure.tried)
+    (positions_in c.args.at.now) in
+    let at : IsSettleAt made.circuit.now made.number made.hour x =
+    record { circuit_is = refl; number_is = sym number; hour_is = refl } in
+    let w = rounds_written g.S.Sink.taken g.S.Sink.calls g.P.Page.style.opening c.args.begun c.args.out.now
+    c.print_rounds.new.out c.print_rounds.new.begun (rounds_texts g.P.Page.round_texts x 0 (rounds_in made.rounds.now))
+    (g.P.Page.last_texts x) _ (c.law.ensures.parts x) (c.in_default.ensures.goes x at)
+    (c.in_default.ensures.begun x at refl) in
+    let texts = pieces_of c.in-Ok.texts.items in
+    failed_cut g.S.Sink.taken g.S.Sink.calls g.P.Page.style c.args.begun x (c.law.ensures.silent x) c.args.out.now
+    c.print_rounds.new.out c.print_texts.new.out c.print_rounds.new.begun texts [] _ f c.in-Some-print_texts.code
+    (sym (c.in-Ok.ensures l f number) ∙ sym (append-nil texts)) w c.in-Some-print_texts.ensures.ends
 
 pub returns-clause-prints : goal.returns-clause-prints
 returns-clause-prints g c l number =
-    let first = rw c.in-Err-NoMemory.field-0-is at c.in-Err-NoMemory.ensures.emits in
-    printed_cut g.S.Sink.taken g.S.Sink.calls true c.args.out.now c.emit.new.out _ (Some c.args.failure.fault) 1
-    (λ told none. not_empty _ (writes (fault_text c.args.failure.fault)) [] none)
-    (cut_as g.S.Sink.taken g.S.Sink.calls c.args.out.now c.emit.new.out _ _ 1
-    (ap (λ rs. map writes (pieces_of rs)) c.as_slice.ensures.value ∙ c.in-Ok.ensures l number)
-    (cut_by_memory g.S.Sink.taken g.S.Sink.calls c.args.out.now c.emit.new.out (pieces_of c.as_slice.result.now)
-    first))
+    let made = c.args.made.now in
+    let f = c.args.failure.fault in
+    let x = settle_made made.circuit.now made.hour l made.rounds.now (end_with f c.args.failure.tried)
+    (positions_in c.args.at.now) in
+    let at : IsSettleAt made.circuit.now made.number made.hour x =
+    record { circuit_is = refl; number_is = sym number; hour_is = refl } in
+    let w = rounds_written g.S.Sink.taken g.S.Sink.calls g.P.Page.style.opening c.args.begun c.args.out.now
+    c.print_rounds.new.out c.print_rounds.new.begun (rounds_texts g.P.Page.round_texts x 0 (rounds_in made.rounds.now))
+    (g.P.Page.last_texts x) _ (c.law.ensures.parts x) (c.in_default.ensures.goes x at)
+    (c.in_default.ensures.begun x at refl) in
+    let texts = pieces_of c.in-Ok.texts.items in
+    let all = written_more g.S.Sink.taken g.S.Sink.calls g.P.Page.style.opening c.args.begun c.args.out.now
+    c.print_rounds.new.out c.print_texts.new.out c.print_rounds.new.begun c.print_texts.new.begun texts [] _ _
+    (sym (c.in-Ok.ensures l f number) ∙ sym (append-nil texts)) w c.in_default-print_texts.ensures.goes
+    (c.in_default-print_texts.ensures.begun refl) in
+    failed_printed g.S.Sink.taken g.S.Sink.calls g.P.Page.style c.args.begun x (c.law.ensures.silent x) c.args.out.now
+    c.print_texts.new.out c.print_fault.new.out c.print_texts.new.begun f c.print_fault.result all
+    c.print_fault.ensures.prints

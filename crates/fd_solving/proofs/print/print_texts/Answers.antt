@@ -1,9 +1,18 @@
-use Rattle.std.proofs.Common.{◌∙◌, map, ap}
+use Rattle.std.proofs.Common.{◌∙◌, map, ap, sym}
 use Rattle.fd_pages.specs.fd_outside.Emitted.{pieces_of}
+use Rattle.fd_pages.specs.fd_outcome.Behind.{has_text}
 use Rattle.fd_pages.specs.fd_outcome.Calls.{writes}
 use Rattle.fd_pages.proofs.CallerLemmas.fd_outcome.{cut_before, cut_by_fault, cut_by_memory}
 use Rattle.fd_solving.proofs.Handed.{cut_as, wrote_as}
+use Rattle.fd_solving.proofs.Parted.{wrote_no_text}
 use Rattle.fd_solving.proofs.print.print_texts.Goals as goal
+
+pub returns-then-not-has_text-clause-goes : goal.returns-then-not-has_text-clause-goes
+returns-then-not-has_text-clause-goes g c =
+    wrote_no_text g.S.Sink.taken g.S.Sink.calls g.P.Page.style.opening c.args.begun.now c.args.out.now
+    (pieces_of c.args.texts.items)
+    (sym (ap (λ rs. has_text (map writes (pieces_of rs))) c.as_slice.ensures.value) ∙ sym c.has_text.ensures
+    ∙ c.if-not-has_text.true)
 
 pub returns-in_default-clause-ends : goal.returns-in_default-clause-ends
 returns-in_default-clause-ends g c = cut_before g.S.Sink.taken g.S.Sink.calls c.args.out.now _
