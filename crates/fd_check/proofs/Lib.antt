@@ -1,6 +1,7 @@
 mod Blocks
 mod Walks
 mod Told
+mod Kept
 mod Judged
 mod Way
 mod Accepted

@@ -1,9 +1,12 @@
 -- The acts of an hour's blocks beside those of its rounds, and what the hour comes to.
 use Rattle.std.specs.Prelude.{ℕ, ◌-◌, List, [], ◌∷◌, length, map, take, Option, Some, None, Result, Ok, Err, if◌then◌else◌}
 use Rattle.std.specs.Cmp.Lexicographic.{pointwise}
+use Rattle.std.specs.declared.alloc.Global.{Global}
+use Rattle.std.specs.declared.vec.Vec.{Vec}
 use Rattle.fd_daily.specs.fd_cert.declared.rule.Rule.TheVariants as rule
 use Rattle.fd_daily.specs.fd_settle.declared.fault.SettleFault.{SettleFault}
 use Rattle.fd_daily.specs.fd_settle.declared.fault.SettleFault.TheVariants as settle
+use Rattle.fd_daily.specs.fd_settle.declared.round.Act.{Act as Made}
 use Rattle.fd_daily.specs.fd_settle.declared.round.Round.{Round}
 use Rattle.fd_certfile.specs.Blocks.{Act}
 use Rattle.fd_certfile.specs.Reader.{GivenBlock, ReaderView, given_at}
@@ -14,9 +17,13 @@ use Rattle.fd_certfile.specs.declared.fault.CertFileFault.TheVariants as file
 use Rattle.fd_check.specs.declared.fault.CheckFault.{CheckFault}
 use Rattle.fd_check.specs.declared.fault.CheckFault.TheVariants as fault
 
--- the acts of a round, as its block is to claim them
+-- acts, as the block of their round is to claim them
+abbrev pub acts_claimed : Vec Made Global → List Act
+acts_claimed acts = map act_of acts.items
+
+-- those of a round
 abbrev pub acts_made : Round → List Act
-acts_made r = map act_of r.acts.items
+acts_made r = acts_claimed r.acts
 
 -- the line behind the inverse of the first block that doesn't claim these acts
 abbrev pub first_unlike : List (List Act) → List GivenBlock → Option ℕ

@@ -12,7 +12,7 @@ use crate::compare::judge_hour;
 use crate::fault::CheckFault;
 use dss_commands::Circuit;
 use fd_certfile::{CertReader, certificate_law};
-use fd_daily::{Positions, Underway, daily_run};
+use fd_daily::{ActJournal, Positions, Underway, daily_run};
 use std::alloc::Global;
 
 /// Checks the blocks of one Solve, hour by hour, on the networks of a circuit that passed the tests of Solve; the Solve
@@ -55,7 +55,7 @@ pub(crate) fn check_solve(
 fn check_hours(
     alloc: Global,
     circuit: &Circuit,
-    underway: &mut Underway,
+    underway: &mut Underway<ActJournal>,
     at: &mut Positions,
     settled: &mut u32,
     reader: &mut CertReader<'_>,
@@ -85,11 +85,12 @@ fn check_hours(
     }
 }
 
-// Checks the blocks of the next hour, whose settle has this number in the run.
+// Checks the blocks of the next hour, whose settle has this number in the run. Of a round whose block was judged its acts
+// alone are kept.
 fn check_hour(
     alloc: Global,
     circuit: &Circuit,
-    underway: &mut Underway,
+    underway: &mut Underway<ActJournal>,
     at: &mut Positions,
     number: u32,
     reader: &mut CertReader<'_>,
@@ -109,5 +110,5 @@ fn check_hour(
     reader.begin(number, hour);
     let first = reader.given();
     let ended = daily_run(alloc, circuit, underway, at, reader);
-    judge_hour(reader, first, &underway.rounds, ended)
+    judge_hour(reader, first, &underway.rounds.acts, ended)
 }

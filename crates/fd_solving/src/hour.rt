@@ -13,7 +13,7 @@ ghost use Rattle.fd_solving.specs.Answered.{IsMadeHour, kept_in};
 
 use crate::faults::{Failure, failure_of};
 use dss_commands::Circuit;
-use fd_daily::{Compute, Positions, Underway, daily_run};
+use fd_daily::{Compute, Positions, Round, Underway, daily_run};
 use std::alloc::{AllocError, Global};
 
 /// Solves the next hour of a Solve that is under way, and gives the failure in which it ends, where it doesn't end well. The
@@ -21,7 +21,7 @@ use std::alloc::{AllocError, Global};
 pub(crate) fn solve_hour(
     alloc: Global,
     circuit: &Circuit,
-    underway: &mut Underway,
+    underway: &mut Underway<Vec<Round>>,
     at: &mut Positions,
     solver: &mut Compute,
 ) -> Result<Option<Failure>, AllocError>

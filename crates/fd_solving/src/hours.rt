@@ -21,7 +21,7 @@ use crate::hour::solve_hour;
 use crate::print::{WANT_OF_MEMORY, print_failed, print_fault, print_pending, print_settled};
 use crate::tally::Tally;
 use dss_commands::{Blame, Circuit};
-use fd_daily::{BuildFault, Compute, Positions, Underway};
+use fd_daily::{BuildFault, Compute, Positions, Round, Underway};
 use fd_pages::{Cause, Page, Sink, SolvedHour};
 use std::alloc::Global;
 
@@ -96,7 +96,7 @@ fn print_range<S: Sink>(alloc: Global, blame: &Blame, out: &mut S) -> u8
 fn do_hour<P: Page, S: Sink>(
     alloc: Global,
     circuit: &Circuit,
-    underway: &mut Underway,
+    underway: &mut Underway<Vec<Round>>,
     at: &mut Positions,
     solver: &mut Compute,
     settled: &mut u32,
@@ -153,7 +153,7 @@ fn do_hour<P: Page, S: Sink>(
 fn run_hours<P: Page, S: Sink>(
     alloc: Global,
     circuit: &Circuit,
-    underway: &mut Underway,
+    underway: &mut Underway<Vec<Round>>,
     at: &mut Positions,
     solver: &mut Compute,
     settled: &mut u32,

@@ -19,7 +19,7 @@ ghost use Rattle.fd_timeq.specs.Timed.{IsInTimeMode, carried, timed_hour, timed_
 
 use dss_commands::Circuit;
 use fd_certfile::{Entry, Solver};
-use fd_daily::{BuildFault, Positions, SettleFault, Underway, daily_run};
+use fd_daily::{BuildFault, Positions, Round, SettleFault, Underway, daily_run};
 use std::alloc::Global;
 
 /// The hours of a Solve under way whose controlmode is time. What it has besides the entries that wait is that of
@@ -27,7 +27,7 @@ use std::alloc::Global;
 /// date.
 #[derive(Drop)]
 pub struct TimeDay {
-    pub underway: Underway,
+    pub underway: Underway<Vec<Round>>,
 }
 
 impl TimeDay {
