@@ -10,7 +10,7 @@ use Rattle.fd_derived.specs.Rows.{number_at}
 use Rattle.fd_derived.specs.Sums.{AreZero, IsSupported, spread}
 
 -- one summand taken out
-but_one : (f g : ℕ → ℕ) (p n : ℕ) → p < n → ((j : ℕ) → j ≢ p → f j ≡ g j) → g p ≡ 0 → sum_n f n ≡ sum_n g n + f p
+pub but_one : (f g : ℕ → ℕ) (p n : ℕ) → p < n → ((j : ℕ) → j ≢ p → f j ≡ g j) → g p ≡ 0 → sum_n f n ≡ sum_n g n + f p
 but_one f g p zero h same e = absurd (omega arith)
 but_one f g p (suc n) h same e =
     elim (cases_lt p n) [

@@ -10,3 +10,4 @@ pub mod Rows
 pub mod Allowed
 pub mod DefectSums
 pub mod Loads
+pub mod CallerLemmas

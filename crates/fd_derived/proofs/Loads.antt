@@ -6,8 +6,9 @@ use Rattle.fd_factors.specs.fd_exact.SumLaws.{sum_n-same}
 use Rattle.fd_factors.specs.fd_exact.Sums.{sum_n}
 use Rattle.fd_derived.specs.declared.entries.Claim.{Claim}
 use Rattle.fd_derived.specs.declared.entries.Equation.{Equation}
-use Rattle.fd_derived.specs.Refusals.{added}
-use Rattle.fd_derived.specs.Rows.{RowIsPlaced, allowance_of, bound_of, coefficients_at, defect_of, height_of, load_of, number_at, number_of_rows, rows_of}
+use Rattle.fd_derived.specs.declared.entries.Row.{Row}
+use Rattle.fd_derived.specs.Refusals.{added, added_sizes}
+use Rattle.fd_derived.specs.Rows.{NamesExist, RowIsPlaced, allowance_of, bound_of, coefficients_at, defect_of, height_of, load_of, number_at, number_of_rows, row_at, rows_of}
 use Rattle.fd_derived.specs.Sums.{AreTotals, capped, size_of, spread}
 use Rattle.fd_derived.proofs.Caps.{both_capped, capped_sum, le_capped, lt_capped, next_capped, weighted_capped}
 
@@ -25,22 +26,23 @@ chain s1 s2 s3 w1 w2 w3 v1 v2 v3 a b c e f g =
 moved : (a b c : ℕ) → a + b + c ≡ c + (a + b)
 moved a b c = omega arith
 
-module _ (es : List Equation) (c : Claim) (i : ℕ) (placed : RowIsPlaced es c i) where
+module _ (es : List Equation) (rows : List Row) (i : ℕ) (placed : NamesExist es rows i) where
   pub sizes : (L M : List ℕ) (s1 s2 s3 : ℕ) → AreTotals (λ l. size_of (coefficients_at es l)) (length es) L
-      → AreTotals (λ k. size_of (rows_of c k).left) (number_of_rows c) M → i < number_of_rows c
-      → s1 ≡ capped (0 + weighted_size (rows_of c i).equations (number_at L))
-      → s2 ≡ capped (s1 + weighted_size (rows_of c i).others (number_at M))
+      → AreTotals (λ k. size_of (row_at rows k).left) (length rows) M → i < length rows
+      → s1 ≡ capped (0 + weighted_size (row_at rows i).equations (number_at L))
+      → s2 ≡ capped (s1 + weighted_size (row_at rows i).others (number_at M))
       → s3 ≡ capped (s2 + 2 ^ 40 * number_at M i)
-      → s3 ≡ capped (added es c i)
-  unfolding added
+      → s3 ≡ capped (added_sizes es rows i)
+  unfolding added_sizes
   sizes L M s1 s2 s3 made left i_in e f g =
-      chain s1 s2 s3 (weighted_size (rows_of c i).equations (number_at L)) (weighted_size (rows_of c i).others (number_at M)) (2 ^ 40 * number_at M i)
-      (weighted_size (rows_of c i).equations (λ l. size_of (coefficients_at es l))) (weighted_size (rows_of c i).others (λ k. size_of (rows_of c k).left))
-      (2 ^ 40 * size_of (rows_of c i).left) e f g
-      (weighted_capped (λ l. size_of (coefficients_at es l)) (number_at L) (length es) (rows_of c i).equations placed.equations made.each)
-      (weighted_capped (λ k. size_of (rows_of c k).left) (number_at M) (number_of_rows c) (rows_of c i).others placed.others left.each)
-      (next_capped (2 ^ 40) (number_at M i) (size_of (rows_of c i).left) (left.each i i_in))
+      chain s1 s2 s3 (weighted_size (row_at rows i).equations (number_at L)) (weighted_size (row_at rows i).others (number_at M)) (2 ^ 40 * number_at M i)
+      (weighted_size (row_at rows i).equations (λ l. size_of (coefficients_at es l))) (weighted_size (row_at rows i).others (λ k. size_of (row_at rows k).left))
+      (2 ^ 40 * size_of (row_at rows i).left) e f g
+      (weighted_capped (λ l. size_of (coefficients_at es l)) (number_at L) (length es) (row_at rows i).equations placed.equations made.each)
+      (weighted_capped (λ k. size_of (row_at rows k).left) (number_at M) (length rows) (row_at rows i).others placed.others left.each)
+      (next_capped (2 ^ 40) (number_at M i) (size_of (row_at rows i).left) (left.each i i_in))
 
+module _ (es : List Equation) (c : Claim) (i : ℕ) (placed : RowIsPlaced es c i) where
   pub in_range : (size : ℕ) → size ≡ capped (added es c i) → leb size (2 ^ 120) ≡ leb (added es c i) (2 ^ 120)
   in_range size e = ap (λ x. leb x (2 ^ 120)) e ∙ le_capped (added es c i) (2 ^ 120) (omega arith)
 

@@ -4,10 +4,11 @@ use Rattle.std.specs.List.{list_any}
 use Rattle.std.specs.Option.{option_or}
 use Rattle.fd_factors.specs.Factors.{DerivedRow, weighted_size}
 use Rattle.fd_factors.specs.fd_exact.First.{first_place}
-use Rattle.fd_derived.specs.Rows.{bound_of, bounding_row, coefficients_at, height_of, load_of, number_of_rows, rows_of}
+use Rattle.fd_derived.specs.Rows.{bound_of, bounding_row, coefficients_at, height_of, load_of, number_of_rows, row_at, rows_of}
 use Rattle.fd_derived.specs.Sums.{size_of}
 use Rattle.fd_derived.specs.declared.entries.Claim.{Claim}
 use Rattle.fd_derived.specs.declared.entries.Equation.{Equation}
+use Rattle.fd_derived.specs.declared.entries.Row.{Row}
 use Rattle.fd_derived.specs.declared.refusal.Refusal.{Refusal}
 use Rattle.fd_derived.specs.declared.refusal.Refusal.TheVariants.{Bound, BoundRange, Height, Place, Range, Size}
 
@@ -51,12 +52,15 @@ unknown_refusal c j =
     None (Some (Bound j)))
     (Some (BoundRange j))
 
+-- the sizes of all that makes the defects of a row, at all places together, in units of 2^-80
+unfoldable pub added_sizes : List Equation → List Row → ℕ → ℕ
+added_sizes es rows i = weighted_size (row_at rows i).equations (λ l. size_of (coefficients_at es l))
+    + weighted_size (row_at rows i).others (λ k. size_of (row_at rows k).left)
+    + 2 ^ 40 * size_of (row_at rows i).left
+
 module _ (es : List Equation) (c : Claim) where
-  -- the sizes of all that makes the defects of a row, at all places together, in units of 2^-80
-  unfoldable pub added : ℕ → ℕ
-  added i = weighted_size (rows_of c i).equations (λ l. size_of (coefficients_at es l))
-      + weighted_size (rows_of c i).others (λ k. size_of (rows_of c k).left)
-      + 2 ^ 40 * size_of (rows_of c i).left
+  abbrev pub added : ℕ → ℕ
+  added i = added_sizes es c.rows.items i
 
   abbrev pub is_in_range : ℕ → Bool
   is_in_range i = nat_le (height_of c i) (2 ^ 87) && nat_le (added i) (2 ^ 120)

@@ -52,7 +52,18 @@ no_row = record { equations = []; others = []; left = [] }
 abbrev pub row_at : List Row → ℕ → DerivedRow
 row_at rows i = get_or (map derived_row rows) i no_row
 
--- ---- the law's conditions on a claim, for equations as many as unknowns
+-- ---- of rows alone, for equations as many as unknowns
+
+module _ (es : List Equation) (rows : List Row) where
+  -- by how much a row is wrong, at a place
+  abbrev pub row_defect : ℕ → ℕ → ℤ
+  row_defect i j = defect (length es) (length rows) (2 ^ 40) (coefficient es) (radius es) (row_at rows) i j
+
+  -- what a row names exists
+  abbrev pub NamesExist : ℕ → Type 0
+  NamesExist i = IsPlaced (length es) (length rows) (2 ^ 40) (coefficient es) (radius es) (row_at rows) i
+
+-- ---- the law's conditions on a claim
 
 module _ (c : Claim) where
   abbrev pub number_of_rows : ℕ
@@ -76,13 +87,11 @@ module _ (es : List Equation) (c : Claim) where
   allowance_of l =
       allowance (length es) (number_of_rows c) (2 ^ 40) (coefficient es) (radius es) (rows_of c) (right_side_at es) (height_of c) (bound_of c) l
 
-  -- by how much a row is wrong, at a place
   abbrev pub defect_of : ℕ → ℕ → ℤ
-  defect_of i j = defect (length es) (number_of_rows c) (2 ^ 40) (coefficient es) (radius es) (rows_of c) i j
+  defect_of i j = row_defect es c.rows.items i j
 
-  -- what a row names exists
   abbrev pub RowIsPlaced : ℕ → Type 0
-  RowIsPlaced i = IsPlaced (length es) (number_of_rows c) (2 ^ 40) (coefficient es) (radius es) (rows_of c) i
+  RowIsPlaced i = NamesExist es c.rows.items i
 
   -- what the height of a row has to stand above
   abbrev pub load_of : ℕ → ℕ

@@ -1,12 +1,12 @@
 // One row: whether it is placed and in range, and its height stands above it.
 ghost use Rattle.std.specs.Prelude.{◌≡◌, ◌+◌, ◌*◌, ◌<◌, ◌≤◌, ◌^◌, [], None, nat_lt, length, IfOk};
 ghost use Rattle.fd_derived.specs.Marks.{AreLists, AreMarks};
-ghost use Rattle.fd_derived.specs.Refusals.{added, is_in_range as row_is_in_range, row_refusal as first_of_row};
-ghost use Rattle.fd_derived.specs.Rows.{RowIsPlaced, height_of, load_of, number_of_rows};
-ghost use Rattle.fd_derived.specs.Sums.{AreZero, capped};
+ghost use Rattle.fd_derived.specs.Refusals.{added, added_sizes, is_in_range as row_is_in_range, row_refusal as first_of_row};
+ghost use Rattle.fd_derived.specs.Rows.{NamesExist, RowIsPlaced, coefficients_at, height_of, load_of, number_of_rows, row_at};
+ghost use Rattle.fd_derived.specs.Sums.{AreTotals, AreZero, capped, size_of};
 
 use crate::defects::add_defects;
-use crate::entries::{Claim, Equation};
+use crate::entries::{Claim, Equation, Row};
 use crate::lists::{Lists, ONE};
 use crate::places::Marks;
 use crate::refusal::Refusal;
@@ -20,17 +20,25 @@ const HEIGHT_LIMIT: u128 = 0x80_0000_0000_0000_0000_0000;
 // The most that the sizes of all that makes a row's defects may add up to, 2^120.
 const SIZE_LIMIT: u128 = 0x100_0000_0000_0000_0000_0000_0000_0000;
 
-// The sizes of all that makes a row's defects.
-fn sizes_added(equations: &[Equation], claim: &Claim, lists: &Lists, row: usize) -> u128
-    requires row { row < number_of_rows claim.now }
-    requires placed { RowIsPlaced equations.now claim.now row }
-    requires lists { AreLists equations.now claim.now lists.now }
-    ensures { result ≡ capped (added equations.now claim.now row) }
+/// The sizes of all that makes a row's defects, in units of 2^-80, from the sizes of each equation's coefficients and of
+/// what each row leaves.
+pub fn sizes_added(
+    equations: &[Equation],
+    rows: &[Row],
+    coefficients: &[u128],
+    left: &[u128],
+    row: usize,
+) -> u128
+    requires row { row < length rows.now }
+    requires placed { NamesExist equations.now rows.now row }
+    requires coefficients { AreTotals (λ l. size_of (coefficients_at equations.now l)) (length equations.now) coefficients.now }
+    requires left { AreTotals (λ k. size_of (row_at rows.now k).left) (length rows.now) left.now }
+    ensures { result ≡ capped (added_sizes equations.now rows.now row) }
 {
-    let derived = &claim.rows[row];
-    let size = plus_weighted(0, &derived.equations, &lists.coefficients);
-    let more = plus_weighted(size, &derived.others, &lists.left);
-    plus_product(more, ONE, lists.left[row])
+    let derived = &rows[row];
+    let size = plus_weighted(0, &derived.equations, coefficients);
+    let more = plus_weighted(size, &derived.others, left);
+    plus_product(more, ONE, left[row])
 }
 
 // Whether a row's height and all that makes its defects are in range.
@@ -41,7 +49,13 @@ fn is_in_range(equations: &[Equation], claim: &Claim, lists: &Lists, row: usize)
     requires lists { AreLists equations.now claim.now lists.now }
     ensures { result ≡ row_is_in_range equations.now claim.now row }
 {
-    let size = sizes_added(equations, claim, lists, row);
+    let size = sizes_added(
+        equations,
+        &claim.rows,
+        &lists.coefficients,
+        &lists.left,
+        row,
+    );
     claim.heights[row] <= HEIGHT_LIMIT && size <= SIZE_LIMIT
 }
 
@@ -71,7 +85,7 @@ fn is_above(
 {
     let derived = &claim.rows[row];
     let own = plus_weighted(0, &derived.equations, &lists.allowances);
-    add_defects(sums, touched, equations, claim, row)?;
+    add_defects(sums, touched, equations, &claim.rows, row)?;
     let slack = drain(sums, touched, &claim.bounds, own);
     touched.clear();
     let load = plus_weighted(slack, &derived.others, &claim.heights);

@@ -2,11 +2,11 @@
 ghost use Rattle.std.specs.Prelude.{◌≡◌, ℕ, ◌<◌, ◌≤◌, ◌^◌, ◌*ℤ◌, pos, negsuc, [], length, IfOk};
 ghost use Rattle.fd_factors.specs.Factors.{HasPlaces, weighted_size};
 ghost use Rattle.fd_factors.specs.fd_exact.States.{part};
-ghost use Rattle.fd_derived.specs.Refusals.{added};
-ghost use Rattle.fd_derived.specs.Rows.{RowIsPlaced, coefficients_at, defect_of, entries_of, number_of_rows, row_at};
+ghost use Rattle.fd_derived.specs.Refusals.{added_sizes};
+ghost use Rattle.fd_derived.specs.Rows.{NamesExist, coefficients_at, entries_of, row_at, row_defect};
 ghost use Rattle.fd_derived.specs.Sums.{AreInside, AreZero, HasRoom, IsCombined, IsSupported, size_of};
 
-use crate::entries::{Claim, Entry, Equation, Row};
+use crate::entries::{Entry, Equation, Row};
 use crate::sums::add;
 use std::alloc::AllocError;
 
@@ -80,27 +80,31 @@ fn take_rows(
     Ok(())
 }
 
-// Writes the defects of a row into sums that are 0.
+/// Writes the defects of a row into sums that are 0, one for each unknown, in units of 2^-80, and notes the places that
+/// it touches.
+///
+/// # Errors
+/// `AllocError` where memory is refused.
 pub fn add_defects(
     sums: &mut [i128],
     touched: &mut Vec<usize>,
     equations: &[Equation],
-    claim: &Claim,
+    rows: &[Row],
     row: usize,
 ) -> Result<(), AllocError>
-    requires row { row < number_of_rows claim.now }
-    requires placed { RowIsPlaced equations.now claim.now row }
-    requires range { added equations.now claim.now row ≤ 2 ^ 120 }
+    requires row { row < length rows.now }
+    requires placed { NamesExist equations.now rows.now row }
+    requires range { added_sizes equations.now rows.now row ≤ 2 ^ 120 }
     requires zero { AreZero sums.old }
     requires untouched { touched.old.items ≡ [] }
     ensures long { IfOk result (λ _. length sums.new ≡ length sums.old) }
-    ensures defects { IfOk result (λ _. (j : ℕ) → j < length sums.old → part sums.new j ≡ defect_of equations.now claim.now row j) }
+    ensures defects { IfOk result (λ _. (j : ℕ) → j < length sums.old → part sums.new j ≡ row_defect equations.now rows.now row j) }
     ensures supported { IfOk result (λ _. IsSupported sums.new touched.new.items) }
     ensures inside { IfOk result (λ _. AreInside touched.new.items (length sums.new)) }
 {
-    let derived = &claim.rows[row];
+    let derived = &rows[row];
     add_equations(sums, touched, &derived.equations, equations)?;
-    take_rows(sums, touched, &derived.others, &claim.rows)?;
+    take_rows(sums, touched, &derived.others, rows)?;
     add(sums, touched, &derived.left, LESS_ONE)?;
     Ok(())
 }

@@ -30,7 +30,11 @@ mod refusal;
 mod sums;
 mod totals;
 
+pub use above::sizes_added;
 pub use checking::check;
+pub use defects::add_defects;
 pub use entries::{Claim, Entry, Equation, Row};
 pub use laws::accepted_law;
+pub use lists::{allowances, coefficient_sizes, left_sizes};
 pub use refusal::Refusal;
+pub use totals::{number_at, plus_product, plus_weighted};

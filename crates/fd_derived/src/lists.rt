@@ -9,7 +9,7 @@ use crate::entries::{Claim, Equation, Row};
 use crate::totals::{plus_product, plus_weighted, size_of};
 use std::alloc::{AllocError, Global};
 
-// One in units of 2^-40.
+/// One in units of 2^-40.
 pub const ONE: u128 = 0x100_0000_0000;
 
 // The sizes of each equation's coefficients, those of what each row leaves, and by how much each equation may be off.
@@ -20,8 +20,11 @@ pub struct Lists {
     pub allowances: Vec<u128>,
 }
 
-// The sizes of each equation's coefficients.
-fn coefficient_sizes(alloc: Global, equations: &[Equation]) -> Result<Vec<u128>, AllocError>
+/// The sizes of each equation's coefficients, in units of 2^-40.
+///
+/// # Errors
+/// `AllocError` where memory is refused.
+pub fn coefficient_sizes(alloc: Global, equations: &[Equation]) -> Result<Vec<u128>, AllocError>
     ensures { IfOk result (λ sizes. AreTotals (λ l. size_of (coefficients_at equations.now l)) (length equations.now) sizes.items) }
 {
     let mut sizes = Vec::with_capacity(alloc, equations.len())?;
@@ -31,8 +34,11 @@ fn coefficient_sizes(alloc: Global, equations: &[Equation]) -> Result<Vec<u128>,
     Ok(sizes)
 }
 
-// The sizes of what each row leaves.
-fn left_sizes(alloc: Global, rows: &[Row]) -> Result<Vec<u128>, AllocError>
+/// The sizes of what each row leaves, in units of 2^-40.
+///
+/// # Errors
+/// `AllocError` where memory is refused.
+pub fn left_sizes(alloc: Global, rows: &[Row]) -> Result<Vec<u128>, AllocError>
     ensures { IfOk result (λ sizes. AreTotals (λ k. size_of (row_at rows.now k).left) (length rows.now) sizes.items) }
 {
     let mut sizes = Vec::with_capacity(alloc, rows.len())?;
@@ -42,8 +48,11 @@ fn left_sizes(alloc: Global, rows: &[Row]) -> Result<Vec<u128>, AllocError>
     Ok(sizes)
 }
 
-// By how much each equation may be off, where the unknowns are within the bounds.
-fn allowances(
+/// By how much each equation may be off, where the unknowns are within the bounds, in units of 2^-40 of theirs.
+///
+/// # Errors
+/// `AllocError` where memory is refused.
+pub fn allowances(
     alloc: Global,
     equations: &[Equation],
     bounds: &[u128],

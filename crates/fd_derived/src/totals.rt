@@ -6,16 +6,16 @@ ghost use Rattle.fd_derived.specs.Sums.{capped, size_of};
 
 use crate::entries::Entry;
 
-// The total with a product more.
+/// The total with a product more.
 pub fn plus_product(total: u128, factor: u128, number: u128) -> u128
     ensures { result ≡ capped (total + factor * number) }
 {
     total.saturating_add(factor.saturating_mul(number))
 }
 
-// The number at a place of a list, 0 outside it.
+/// The number at a place of a list, 0 outside it.
 #[tactic(auto, using(std::proofs::lemmas::List::get_or_past))]
-fn number_at(numbers: &[u128], place: usize) -> u128
+pub fn number_at(numbers: &[u128], place: usize) -> u128
     ensures { result ≡ number_in numbers.now place }
 {
     if place < numbers.len() {
@@ -36,8 +36,8 @@ pub fn size_of(row: &[Entry]) -> u128
     size
 }
 
-// The total with the sizes of a row's entries more, each times the number of its place. A place without a number counts
-// for nothing.
+/// The total with the sizes of a row's entries more, each times the number of its place. A place without a number counts
+/// for nothing.
 pub fn plus_weighted(total: u128, row: &[Entry], numbers: &[u128]) -> u128
     ensures { result ≡ capped (total + weighted_size (entries_of row.now) (number_in numbers.now)) }
 {
