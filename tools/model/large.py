@@ -53,8 +53,10 @@ for each multiple, and leaves its entries. Its defect at unknown j is
    weighed with c holds with r. Else it begins again with r, at most 64 times.
 
 A g or an s of 2^127 or more, or a bound past 2^60, ends the box at q_t; so does the 64th time, at the first place whose
-bound is above its c. D is 200, else 2,000, else 20,000; where no box has rows that stand, status 10, `not bounded`,
-with the unknown at which the last one ended. The radius is r / 2^20 rounded up, of two parts the greater one.
+bound is above its c. Before all that the first row of which the sizes of all products that make its defects, at all
+unknowns together, add up to more than 2^120 ends each box at its q_t. D is 200, else 2,000, else 20,000; where no box
+has rows that stand, status 10, `not bounded`, with the unknown at which the last one ended. The radius is r / 2^20
+rounded up, of two parts the greater one.
 """
 import derived
 import ladder
@@ -226,6 +228,15 @@ class Factors:
             out.append({c: abs(v) for c, v in wrong.items() if v})
         return out
 
+    def first_past(self):
+        """The unknown of the first row whose sizes of all that makes its defects are past 2^120, or None."""
+        sizes = [sum(abs(v) for _, v in left) for left in self.left]
+        for t, ((q, p), held) in enumerate(zip(self.order, self.multiples)):
+            own = sum(abs(v) for v in self.rows[p].values()) + sizes[t]
+            if (own << 40) + sum(abs(f) * sizes[k] for k, f in held) > P120:
+                return q
+        return None
+
 
 def summed(total, pairs):
     """A number with products added one after the other, or None where a partial sum is past 2^120."""
@@ -243,10 +254,12 @@ class Rows:
 
     def __init__(self, net, x, mismatch, factors):
         self.net, self.x, self.mismatch, self.factors = net, x, mismatch, factors
-        self.defects = factors.defects()
+        self.defects, self.past = factors.defects(), factors.first_past()
 
     def bound(self, boxes):
         """Finds heights and bounds that stand in the box; gives the unknown at which it ends where there are none."""
+        if self.past is not None:
+            return self.past
         off = self.weighed(boxes)
         bounds = [0] * self.net.n
         for self.rounds in range(1, MOST_ROUNDS + 1):

@@ -1,0 +1,5 @@
+pub mod Rows
+pub mod Defects
+pub mod Passes
+pub mod Results
+pub use Rattle.fd_derived.specs as fd_derived
