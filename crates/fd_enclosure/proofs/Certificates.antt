@@ -120,18 +120,20 @@ module _ (v : NetworkView) (x : List ℤ) (c : List (List ℤ)) where
       let e = mismatches_of v x in
       record {
         centre = point;
-        inverse = inverse;
         boxes = refl;
         mismatches_long = mismatches_length;
         mismatches_least = λ l p. subst (λ k. mismatch_at v x l ≤ k) (sym (mismatch_of_claim l p)) (omega arith);
         mismatches_most = λ l p. subst (λ k. k ≤ greatest_mismatch) (sym (mismatch_of_claim l p)) (tight loose l p);
-        bounded = all_bounded n (entry c) J R w (mismatch_at v x) certain;
         radii_long = radii_length e;
-        radii_least = λ i p. subst (λ k. radius_in v x c e i ≤ k) (sym (radius_of_claim e i p)) (omega arith);
         radii_most = λ i p.
             subst (λ k. k ≤ 2 ^ 40) (sym (radius_of_claim e i p
             ∙ radius_same n (entry c) J R w (number_at e) (mismatch_at v x) mismatch_of_claim i))
             (all_narrow n (entry c) J R w (mismatch_at v x) certain i p);
+        shown = record {
+          inverse = inverse;
+          bounded = all_bounded n (entry c) J R w (mismatch_at v x) certain;
+          radii_least = λ i p. subst (λ k. radius_in v x c e i ≤ k) (sym (radius_of_claim e i p)) (omega arith);
+        };
       }
 
 pub certificate_sound : CertificateLaw

@@ -26,9 +26,9 @@ use Rattle.fd_equations.specs.fd_pattern.Conditions.{HasMagnitude, IsAmong, IsLi
 use Rattle.fd_equations.specs.PartLoads.{load_entry, slope_counts, slope_sum, slopes_there}
 use Rattle.fd_equations.specs.Rounded.{jacobian_entry}
 use Rattle.fd_equations.specs.fd_pattern.Views.{NetworkView}
-use Rattle.fd_enclosure.specs.Boxes.{IsInTrustBox, half_width}
+use Rattle.fd_enclosure.specs.Boxes.{IsInPart, part_width}
 use Rattle.fd_enclosure.specs.Encloses.{ChangeLaw, IsImpedance}
-use Rattle.fd_enclosure.specs.Radii.{load_radius, slope_radius}
+use Rattle.fd_enclosure.specs.Radii.{load_radius, part_radius}
 use Rattle.fd_enclosure.proofs.Contributions.{terms_near}
 use Rattle.fd_enclosure.proofs.Loads.{load_near, loads_near}
 use Rattle.fd_enclosure.proofs.Rows.{RowNear, row_more, row_plus, row_still}
@@ -44,34 +44,34 @@ not_branch_either true t h g e = let no : ⊥ = cc in absurd no
 not_branch_either false true h g e = let no : ⊥ = cc in absurd no
 not_branch_either false false h g e = let no : ⊥ = cc in absurd no
 
-module _ (v : NetworkView) (c : List ℤ) (x : State) (net : IsNetwork v) (box : IsInTrustBox v c x) where
-  node_in : (place : ℕ) → place < 2 * v.nodes → nat_abs (away c x place) ≤ x.over * half_width v c place
+module _ (parts : ℕ) (v : NetworkView) (c : List ℤ) (x : State) (net : IsNetwork v) (box : IsInPart parts v c x) where
+  node_in : (place : ℕ) → place < 2 * v.nodes → nat_abs (away c x place) ≤ x.over * part_width parts v c place
   node_in place h =
       let nodes = net.nodes in
       let size = net.unknowns in
       box place (omega arith) (not_branch (nat_lt place (2 * v.nodes)) (nat_lt place (2 * v.complexes)) (lt-ltb place (2 * v.nodes) h))
 
   magnitude_in : (place : ℕ) → 2 * v.complexes ≤ place → place < v.size
-      → nat_abs (away c x place) ≤ x.over * half_width v c place
+      → nat_abs (away c x place) ≤ x.over * part_width parts v c place
   magnitude_in place h g =
       let nodes = net.nodes in
       box place g (not_branch_either (nat_lt place (2 * v.nodes)) (nat_lt place (2 * v.complexes))
       (le-ltb place (2 * v.nodes) (omega arith)) (le-ltb place (2 * v.complexes) h))
 
-  re_in : (node : NodeAt) → IsAmong v.nodes node → nat_abs (re_away c x node) ≤ x.over * re_width (half_width v c) node
+  re_in : (node : NodeAt) → IsAmong v.nodes node → nat_abs (re_away c x node) ≤ x.over * re_width (part_width parts v c) node
   re_in at.Ground h = omega arith
   re_in (at.Node k) h = node_in (2 * k) (omega arith)
 
-  im_in : (node : NodeAt) → IsAmong v.nodes node → nat_abs (im_away c x node) ≤ x.over * im_width (half_width v c) node
+  im_in : (node : NodeAt) → IsAmong v.nodes node → nat_abs (im_away c x node) ≤ x.over * im_width (part_width parts v c) node
   im_in at.Ground h = omega arith
   im_in (at.Node k) h = node_in (2 * k + 1) (omega arith)
 
   own_in : (model : LoadModel) (place : Option ℕ) → HasMagnitude v.complexes v.size model place
-      → nat_abs (magnitude_away c x place) ≤ x.over * magnitude_width (half_width v c) place
+      → nat_abs (magnitude_away c x place) ≤ x.over * magnitude_width (part_width parts v c) place
   own_in model None h = omega arith
   own_in model (Some k) h = magnitude_in k h.1.0 h.1.1
 
-  load_in : (u : LoadAt) → IsServed v.nodes v.complexes v.size u → IsInBox (half_width v c) c x u
+  load_in : (u : LoadAt) → IsServed v.nodes v.complexes v.size u → IsInBox (part_width parts v c) c x u
   load_in u s = record {
     first_re = re_in u.first s.first;
     first_im = im_in u.first s.first;
@@ -112,25 +112,25 @@ radius_three : (a b r : ℕ) → (0 + 4 * a) + (r + 4 * b) ≤ r + 4 * (a + b)
 radius_three a b r = omega arith
 
 -- the network's row l at the state x follows the Jacobian at the centre c
-abbrev pub RowFollows : NetworkView → List ℤ → State → ℕ → Type 0
-RowFollows v c x l =
+abbrev pub RowFollows : ℕ → NetworkView → List ℤ → State → ℕ → Type 0
+RowFollows parts v c x l =
     RowNear (away c x) v.size (x.over * 2 ^ 40) (residual_of v.stamp x l) (residual_of v.stamp (whole_state c) l)
-    (λ j. jacobian_entry v c l j) (λ j. slope_radius v c l j)
+    (λ j. jacobian_entry v c l j) (λ j. part_radius parts v c l j)
 
 -- a part load whose rows follow its slopes; one of constant impedance has none beside the contributions
-abbrev pub LoadFollows : NetworkView → List ℤ → State → LoadAt → Type 0
-LoadFollows v c x u = IsServed v.nodes v.complexes v.size u × (is_linear u.load.model ≡ false → RowsFollow (half_width v c) c x u)
+abbrev pub LoadFollows : ℕ → NetworkView → List ℤ → State → LoadAt → Type 0
+LoadFollows parts v c x u = IsServed v.nodes v.complexes v.size u × (is_linear u.load.model ≡ false → RowsFollow (part_width parts v c) c x u)
 
-pub row_follows : (v : NetworkView) (c : List ℤ) (x : State) (l : ℕ) → IsNetwork v
-    → All (LoadFollows v c x) v.stamp.loads → RowFollows v c x l
-unfolding slope_radius
-row_follows v c x l net all =
+pub row_follows : (parts : ℕ) (v : NetworkView) (c : List ℤ) (x : State) (l : ℕ) → IsNetwork v
+    → All (LoadFollows parts v c x) v.stamp.loads → RowFollows parts v c x l
+unfolding part_radius
+row_follows parts v c x l net all =
     let us = v.stamp.loads in
     let ts = v.stamp.terms in
     let y = away c x in
     let n = v.size in
     let k = x.over * 2 ^ 40 in
-    let half = half_width v c in
+    let half = part_width parts v c in
     let Ju : ℕ → ℤ = λ j. list_z (λ u. load_entry u (slopes_there c u) l j) us in
     let Ru : ℕ → ℕ = λ j. list_n (λ u. load_radius u (radii_in half c u) l j) us + 4 * slope_counts us l j in
     let a = sum_of (constant_given l) v.stamp.constants in
@@ -140,35 +140,35 @@ row_follows v c x l net all =
     let d0 = equation l (nonlinear_of us (whole_state c)) in
     let A = row_still y n k a in
     let B = terms_near c x n l ts net.terms.each (den_positive n) in
-    let D = loads_near half c x n l (LoadFollows v c x) us all (λ u h.
+    let D = loads_near half c x n l (LoadFollows parts v c x) us all (λ u h.
     let s = h.0 in
     load_near half c x n l u (node_inside v net u.first s.first) (node_inside v net u.second s.second)
     (magnitude_inside v.complexes n u.load.model u.magnitude s.magnitude)
     (own_model v.complexes n u.load.model u.magnitude s.magnitude) h.1) in
     let linear = row_plus y n k a a b b0 (λ j. pos 0) (λ j. linear_entry ts l j) (λ j. 0) (λ j. 4 * count_at ts l j) A B in
     row_more y n k (residual_of v.stamp x l) (residual_of v.stamp (whole_state c) l)
-    (λ j. (pos 0 +ℤ linear_entry ts l j) +ℤ Ju j) (λ j. jacobian_entry v c l j) (λ j. (0 + 4 * count_at ts l j) + Ru j) (λ j. slope_radius v c l j)
+    (λ j. (pos 0 +ℤ linear_entry ts l j) +ℤ Ju j) (λ j. jacobian_entry v c l j) (λ j. (0 + 4 * count_at ts l j) + Ru j) (λ j. part_radius parts v c l j)
     (λ j p. sum_three (linear_entry ts l j) (slope_sum us c l j))
     (λ j p. radius_three (count_at ts l j) (slope_counts us l j) (list_n (λ u. load_radius u (radii_in half c u) l j) us))
     (row_plus y n k (a ⊕ b) (a ⊕ b0) d d0 (λ j. pos 0 +ℤ linear_entry ts l j) Ju (λ j. 0 + 4 * count_at ts l j) Ru linear D)
 
 -- in the box each part load follows
 pub network_changes : slope.ChangeLaw → ChangeLaw
-network_changes follow v c x l net long over box inside =
-    row_follows v c x l net (All-weaker (IsServed v.nodes v.complexes v.size) (LoadFollows v c x) (λ u s. (
+network_changes follow v parts c x l net long over box inside =
+    row_follows parts v c x l net (All-weaker (IsServed v.nodes v.complexes v.size) (LoadFollows parts v c x) (λ u s. (
       s,
-      λ e. follow (half_width v c) c x u s.phase e over (load_in v c x net box u s),
+      λ e. follow (part_width parts v c) c x u s.phase e over (load_in parts v c x net box u s),
     )) v.stamp.loads net.loads)
 
 -- where each is of constant impedance they follow everywhere
-impedances : (v : NetworkView) (c : List ℤ) (x : State) (us : List LoadAt)
-    → All (IsServed v.nodes v.complexes v.size) us → All IsImpedance us → All (LoadFollows v c x) us
-impedances v c x [] h g = All-nil (LoadFollows v c x)
-impedances v c x (u ∷ us) h g =
+impedances : (parts : ℕ) (v : NetworkView) (c : List ℤ) (x : State) (us : List LoadAt)
+    → All (IsServed v.nodes v.complexes v.size) us → All IsImpedance us → All (LoadFollows parts v c x) us
+impedances parts v c x [] h g = All-nil (LoadFollows parts v c x)
+impedances parts v c x (u ∷ us) h g =
     let linear : is_linear u.load.model ≡ true = All-head IsImpedance u us g in
-    All-cons (LoadFollows v c x) u us (All-head (IsServed v.nodes v.complexes v.size) u us h, λ e. let no : ⊥ = cc in absurd no)
-    (impedances v c x us (All-tail (IsServed v.nodes v.complexes v.size) u us h) (All-tail IsImpedance u us g))
+    All-cons (LoadFollows parts v c x) u us (All-head (IsServed v.nodes v.complexes v.size) u us h, λ e. let no : ⊥ = cc in absurd no)
+    (impedances parts v c x us (All-tail (IsServed v.nodes v.complexes v.size) u us h) (All-tail IsImpedance u us g))
 
-pub linear_changes : (v : NetworkView) (c : List ℤ) (x : State) (l : ℕ) → IsNetwork v → All IsImpedance v.stamp.loads
-    → RowFollows v c x l
-linear_changes v c x l net all = row_follows v c x l net (impedances v c x v.stamp.loads net.loads all)
+pub linear_changes : (parts : ℕ) (v : NetworkView) (c : List ℤ) (x : State) (l : ℕ) → IsNetwork v → All IsImpedance v.stamp.loads
+    → RowFollows parts v c x l
+linear_changes parts v c x l net all = row_follows parts v c x l net (impedances parts v c x v.stamp.loads net.loads all)

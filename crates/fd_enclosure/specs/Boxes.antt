@@ -8,20 +8,36 @@ use Rattle.fd_equations.specs.Rounded.{list_of}
 use Rattle.fd_equations.specs.fd_pattern.Views.{NetworkView, kind_of}
 use Rattle.fd_equations.specs.Weights.{weight_at}
 
--- a part of a voltage and a magnitude have a box of 1/200 of their weight, rounded up; a current has none
-abbrev pub half_width_by : PlaceKind → ℕ → ℕ
-half_width_by Node weight = ceil_nat weight 200
-half_width_by Branch weight = 0
-half_width_by Magnitude weight = ceil_nat weight 200
+-- In the box of a part of the weights, w / parts, a part of a voltage and a magnitude have that part of their weight, rounded up; a
+-- current has none.
+abbrev pub part_width_by : ℕ → PlaceKind → ℕ → ℕ
+part_width_by parts Node weight = ceil_nat weight parts
+part_width_by parts Branch weight = 0
+part_width_by parts Magnitude weight = ceil_nat weight parts
 
--- the half-width of the box around the centre c at a place, in whole microvolts
+-- the half-width of that box around the centre c at a place, in whole microvolts
+abbrev pub part_width : ℕ → NetworkView → List ℤ → ℕ → ℕ
+part_width parts v c place = part_width_by parts (kind_of v place) (weight_at v c place)
+
+abbrev pub part_boxes : ℕ → NetworkView → List ℤ → List ℕ
+part_boxes parts v c = list_of v.size (part_width parts v c)
+
+-- The state x, of any denominator, lies in that box around c: each part of a voltage and each magnitude is within its half-width of the
+-- centre. Currents are free.
+abbrev pub IsInPart : ℕ → NetworkView → List ℤ → State → Type 0
+IsInPart parts v c x =
+    (place : ℕ) → place < v.size → kind_of v place ≢ Branch → nat_abs (away c x place) ≤ x.over * part_width parts v c place
+
+-- ---- the box of a two-hundredth
+
+abbrev pub half_width_by : PlaceKind → ℕ → ℕ
+half_width_by = part_width_by 200
+
 abbrev pub half_width : NetworkView → List ℤ → ℕ → ℕ
-half_width v c place = half_width_by (kind_of v place) (weight_at v c place)
+half_width = part_width 200
 
 abbrev pub boxes_of : NetworkView → List ℤ → List ℕ
-boxes_of v c = list_of v.size (half_width v c)
+boxes_of = part_boxes 200
 
--- The state x, of any denominator, lies in the box around c: each part of a voltage and each magnitude is within its half-width of the
--- centre. Currents are free.
 abbrev pub IsInTrustBox : NetworkView → List ℤ → State → Type 0
-IsInTrustBox v c x = (place : ℕ) → place < v.size → kind_of v place ≢ Branch → nat_abs (away c x place) ≤ x.over * half_width v c place
+IsInTrustBox = IsInPart 200

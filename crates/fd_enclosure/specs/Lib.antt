@@ -11,3 +11,4 @@ pub use Rattle.fd_slope.specs.fd_system as fd_system
 pub use Rattle.fd_equations.specs.fd_pattern as fd_pattern
 pub use Rattle.fd_equations.specs as fd_equations
 pub use Rattle.fd_slope.specs as fd_slope
+pub use Rattle.fd_factors.specs as fd_factors

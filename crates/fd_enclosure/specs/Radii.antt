@@ -10,7 +10,7 @@ use Rattle.fd_slope.specs.declared.radii.Radii.{Radii}
 use Rattle.fd_slope.specs.declared.radii.RadiusRow.{RadiusRow}
 use Rattle.fd_equations.specs.Rounded.{jacobian_count}
 use Rattle.fd_equations.specs.fd_pattern.Views.{NetworkView}
-use Rattle.fd_enclosure.specs.Boxes.{half_width}
+use Rattle.fd_enclosure.specs.Boxes.{part_width}
 
 -- ---- what stands at the place l
 
@@ -40,8 +40,12 @@ load_radius u r row col = cond (is_linear u.load.model) 0 (spread row u (radius_
 
 -- ---- a network
 
--- The radius at a place of row and column, in units of 2^-40: those of the slopes of part loads in the box around c, and 4 units for each
--- summand of the Jacobian there, which covers its rounding.
-unfoldable pub slope_radius : NetworkView → List ℤ → ℕ → ℕ → ℕ
-slope_radius v c row col =
-    list_n (λ u. load_radius u (radii_in (half_width v c) c u) row col) v.stamp.loads + 4 * jacobian_count v row col
+-- The radius at a place of row and column, in units of 2^-40: those of the slopes of part loads in the box of w / parts around c, and
+-- 4 units for each summand of the Jacobian there, which covers its rounding.
+unfoldable pub part_radius : ℕ → NetworkView → List ℤ → ℕ → ℕ → ℕ
+part_radius parts v c row col =
+    list_n (λ u. load_radius u (radii_in (part_width parts v c) c u) row col) v.stamp.loads + 4 * jacobian_count v row col
+
+-- in the box of a two-hundredth
+abbrev pub slope_radius : NetworkView → List ℤ → ℕ → ℕ → ℕ
+slope_radius = part_radius 200

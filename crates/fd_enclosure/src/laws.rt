@@ -1,8 +1,8 @@
 // The laws of certificates.
 ghost use Rattle.fd_enclosure.specs.Encloses.{CertificateLaw, ChangeLaw, EnclosureLaw, LinearLaw};
 
-/// A law: between a centre and a state in its box each row changes as the Jacobian at the centre says, up to the radii of the slopes.
-/// Does nothing.
+/// A law: between a centre and a state in a box of a part of its weights each row changes as the Jacobian at the centre says, up to the
+/// radii of the slopes in this box. Does nothing.
 pub fn change_law()
     ensures { ChangeLaw }
 {
@@ -14,6 +14,7 @@ pub fn enclosure_law()
     ensures { EnclosureLaw }
 {
     change_law();
+    fd_factors::enclosure_law();
 }
 
 /// A law: the certificate of a point is sound. Does nothing.
@@ -25,4 +26,6 @@ pub fn certificate_law()
 /// within the radii. Does nothing.
 pub fn linear_law()
     ensures { LinearLaw }
-{}
+{
+    fd_factors::enclosure_law();
+}
