@@ -13,7 +13,7 @@ use Rattle.std.proofs.lemmas.List.{get_or-map, get_or-replicate, length-map, len
 use Rattle.fd_enclosure.specs.Bounds.{refusal}
 use Rattle.fd_enclosure.specs.Boxes.{boxes_of}
 use Rattle.fd_enclosure.specs.Radii.{slope_radius}
-use Rattle.fd_enclosure.specs.Sound.{Claim, certificate_of, claim_of, first_loose, greatest_mismatch, loose, mismatch_at, mismatches_of, mismatch_size, number_at, radii_of, radius_in, uncertain, unless_loose, unless_uncertain}
+use Rattle.fd_enclosure.specs.Sound.{Claim, by_inverse, certificate_of, claim_of, first_loose, greatest_mismatch, loose, mismatch_at, mismatches_of, mismatch_size, number_at, radii_of, radius_in, uncertain, unless_loose, unless_uncertain}
 use Rattle.fd_cert.specs.Claims.{tried_claim}
 use Rattle.fd_cert.specs.Columns.{HasNumbers}
 use Rattle.fd_cert.proofs.Verdict.{first_same}
@@ -80,14 +80,14 @@ sizes_are v x ms rows e f =
 
 -- the lists of a certified state, as the claims name them
 pub claim_is : (v : NetworkView) (x : List ℤ) (c : List (List ℤ)) (m : Claim) (rs ms bs : List ℕ)
-    → m ≡ record { centre = x; radii = rs; mismatches = ms; boxes = bs; inverse = c } → ms ≡ mismatches_of v x
+    → m ≡ record { centre = x; radii = rs; mismatches = ms; boxes = bs; support = by_inverse c } → ms ≡ mismatches_of v x
     → bs ≡ boxes_of v x → rs ≡ list_of v.size (radius_in v x c (mismatches_of v x)) → m ≡ claim_of v x c
-claim_is v x c m rs ms bs e f g h = e ∙ (λ i. record { centre = x; radii = radii_are v x c ms f rs h i; mismatches = f i; boxes = g i; inverse = c })
+claim_is v x c m rs ms bs e f g h = e ∙ (λ i. record { centre = x; radii = radii_are v x c ms f rs h i; mismatches = f i; boxes = g i; support = by_inverse c })
 
 pub tried_is : (v : NetworkView) (x : List ℤ) (c : List (List ℤ)) (m : Claim) (rs ms bs : List ℕ)
-    → m ≡ record { centre = x; radii = rs; mismatches = ms; boxes = bs; inverse = c } → ms ≡ mismatches_of v x
+    → m ≡ record { centre = x; radii = rs; mismatches = ms; boxes = bs; support = by_inverse c } → ms ≡ mismatches_of v x
     → bs ≡ boxes_of v x → rs ≡ list_of v.size (λ _. 0) → m ≡ tried_claim v x c
-tried_is v x c m rs ms bs e f g h = e ∙ (λ i. record { centre = x; radii = h i; mismatches = f i; boxes = g i; inverse = c })
+tried_is v x c m rs ms bs e f g h = e ∙ (λ i. record { centre = x; radii = h i; mismatches = f i; boxes = g i; support = by_inverse c })
 
 pub zeros_are : (n m : ℕ) (rs : List ℕ) → rs ≡ replicate m 0 → m ≡ n → rs ≡ list_of n (λ _. 0)
 zeros_are n m rs e f =

@@ -1,5 +1,5 @@
 -- The first rule that a claim breaks, from lists as they were computed.
-use Rattle.std.proofs.Common.{◌≡◌, ◌∙◌, ℕ, ◌<◌, ℤ, nat_lt, true, false, cond, List, length, Option, Some, None, ap, sym, subst}
+use Rattle.std.proofs.Common.{◌≡◌, ◌∙◌, ℕ, ◌<◌, ℤ, nat_lt, true, false, cond, List, length, Option, Some, None, ap, refl, sym, subst}
 use Rattle.std.specs.Prelude.{◌↔◌}
 use Rattle.std.proofs.lemmas.Bool.{ltb-false, or_parts}
 use Rattle.fd_enclosure.specs.fd_exact.First.{first_place}
@@ -7,9 +7,10 @@ use Rattle.fd_enclosure.specs.fd_exact.FirstLaws.{none_holds}
 use Rattle.fd_enclosure.specs.fd_equations.Rounded.{list_of}
 use Rattle.fd_enclosure.specs.fd_pattern.Views.{NetworkView}
 use Rattle.fd_enclosure.proofs.CallerLemmas.fd_equations.{get_or-list_of, length-list_of}
-use Rattle.fd_enclosure.specs.Sound.{Claim, IsSound, greatest_mismatch, mismatch_at, mismatches_of, number_at, radius_in}
+use Rattle.fd_enclosure.specs.Boxes.{boxes_of}
+use Rattle.fd_enclosure.specs.Sound.{IsSound, greatest_mismatch, mismatch_at, mismatches_of, number_at, radius_in}
 use Rattle.fd_cert.specs.Reaches.{AreTight}
-use Rattle.fd_cert.specs.Rechecks.{HasItsBoxes, broken_at, first_at_point, first_broken, first_unsound, has_size, is_narrow, is_out_of_range, is_untrue, place_named, refusal_of}
+use Rattle.fd_cert.specs.Rechecks.{boxed_claim, broken_at, first_at_point, first_broken, has_size, is_narrow, is_out_of_range, is_untrue, place_named, refusal_of}
 use Rattle.fd_cert.specs.declared.rule.Broken.{Broken}
 use Rattle.fd_cert.specs.declared.rule.Rule.TheVariants.{Bound, Mismatch, Radius, Range, Size}
 use Rattle.fd_cert.proofs.Certificates.{length-mismatches, numbers_at}
@@ -117,11 +118,15 @@ module _ (v : NetworkView) (x : List ℤ) (r e : List ℕ) (c : List (List ℤ))
     past_range h = past_size sized ∙ ap (λ o. broken_at Range o (first_at_point v x r e c)) (range_same None h)
 
 -- an answer says exactly whether the claim is sound
-pub says_sound : (v : NetworkView) (m : Claim) → HasItsBoxes v m → (b : Option Broken) → b ≡ first_unsound v m
-    → (b ≡ None) ↔ IsSound v m
-says_sound v m boxes b h = let s = sound_exactly v m boxes in (λ e. s.0 (sym h ∙ e), λ i. h ∙ s.1 i)
+pub says_sound : (v : NetworkView) (x : List ℤ) (r e : List ℕ) (c : List (List ℤ)) (b : Option Broken) → b ≡ first_broken v x r e c
+    → (b ≡ None) ↔ IsSound v (boxed_claim v x r e c)
+says_sound v x r e c b h = let s = sound_exactly v x r e (boxes_of v x) c (λ point. refl) in (λ i. s.0 (sym h ∙ i), λ i. h ∙ s.1 i)
 
 -- the same lists break the same
-pub broken_same : (v : NetworkView) (x y : List ℤ) (r s e f : List ℕ) (c : List (List ℤ)) → x ≡ y → r ≡ s → e ≡ f
+pub lists_same : (v : NetworkView) (x y : List ℤ) (r s e f : List ℕ) (c : List (List ℤ)) → x ≡ y → r ≡ s → e ≡ f
     → first_broken v x r e c ≡ first_broken v y s f c
-broken_same v x y r s e f c p q t = λ i. first_broken v (p i) (q i) (t i) c
+lists_same v x y r s e f c p q t = λ i. first_broken v (p i) (q i) (t i) c
+
+pub broken_same : (v : NetworkView) (x y : List ℤ) (r s e : List ℕ) (c : List (List ℤ)) → x ≡ y → r ≡ s
+    → first_broken v x r e c ≡ first_broken v y s e c
+broken_same v x y r s e c p q = lists_same v x y r s e e c p q refl

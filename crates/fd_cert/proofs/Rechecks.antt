@@ -19,10 +19,11 @@ use Rattle.fd_enclosure.specs.fd_equations.Rounded.{jacobian_entry}
 use Rattle.fd_enclosure.specs.fd_pattern.Views.{NetworkView, kind_of}
 use Rattle.fd_enclosure.specs.fd_equations.Weights.{weight_at, weight_by}
 use Rattle.fd_enclosure.specs.Bounds.{bound_at, bound_of, bound_size, is_below_one, is_bounded, radius_at, reach_of, refusal, refused_bound, unless_unbounded, unless_wide}
+use Rattle.fd_enclosure.specs.Boxes.{boxes_of}
 use Rattle.fd_enclosure.specs.Radii.{slope_radius}
-use Rattle.fd_enclosure.specs.Sound.{Claim, IsInverse, IsSound, greatest_mismatch, mismatch_at, number_at, radius_in}
+use Rattle.fd_enclosure.specs.Sound.{Claim, IsInverse, IsSound, by_inverse, greatest_mismatch, mismatch_at, number_at, radius_in}
 use Rattle.fd_enclosure.proofs.CallerLemmas.{all_bounded}
-use Rattle.fd_cert.specs.Rechecks.{HasItsBoxes, broken_at, first_at_point, first_broken, first_unsound, has_size, has_wide_entry, is_narrow, is_out_of_range, is_untrue, place_named, refusal_of}
+use Rattle.fd_cert.specs.Rechecks.{broken_at, first_at_point, first_broken, first_unsound, has_size, has_wide_entry, is_narrow, is_out_of_range, is_untrue, place_named, refusal_of}
 use Rattle.fd_cert.specs.declared.rule.Broken.{Broken}
 use Rattle.fd_cert.specs.declared.rule.Rule.{Rule}
 use Rattle.fd_cert.specs.declared.rule.Rule.TheVariants.{Bound, Mismatch, Radius, Range, Size}
@@ -210,42 +211,44 @@ module _ (v : NetworkView) (x : List ℤ) (r e : List ℕ) (c : List (List ℤ))
       ∙ none_later Range (first_place (is_out_of_range v.size x r c) v.size) (first_at_point v x r e c) h.range
       (from_point h.point)
 
-module _ (v : NetworkView) (m : Claim) where
-  sound_from : HasItsBoxes v m → first_unsound v m ≡ None → IsSound v m
+module _ (v : NetworkView) (x : List ℤ) (r e bs : List ℕ) (c : List (List ℤ)) where
+  -- the claim with these boxes
+  abbrev m : Claim
+  m = record { centre = x; radii = r; mismatches = e; boxes = bs; support = by_inverse c }
+
+  sound_from : (IsPoint v x → bs ≡ boxes_of v x) → first_broken v x r e c ≡ None → IsSound v m
   sound_from boxes h =
       let n = v.size in
-      let x = m.centre in
-      let e = m.mismatches in
-      let a = at_all v x m.radii e m.inverse h in
-      let point : IsPoint v x = record { long = a.size.centre; parts = parts_within n x m.radii m.inverse a.range a.size.centre } in
+      let a = at_all v x r e c h in
+      let point : IsPoint v x = record { long = a.size.centre; parts = parts_within n x r c a.range a.size.centre } in
       let told = λ (l : ℕ) (p : l < n).
       or_parts (nat_lt (number_at e l) (mismatch_at v x l)) (nat_lt greatest_mismatch (number_at e l))
       (none_holds (λ l. is_untrue (mismatch_at v x l) (number_at e l)) n l a.point.mismatches p) in
       record {
         centre = point;
-        inverse = inverse_within n x m.radii m.inverse a.range a.size.inverse;
         boxes = boxes point;
         mismatches_long = a.size.mismatches;
         mismatches_least = λ l p. ltb-false (number_at e l) (mismatch_at v x l) (told l p).0;
         mismatches_most = λ l p. ltb-false greatest_mismatch (number_at e l) (told l p).1;
-        bounded = all_bounded n (entry m.inverse) (jacobian_entry v x) (slope_radius v x) (weight_at v x) (number_at e) a.point.bound;
         radii_long = a.size.radii;
-        radii_least = λ i p. ltb-false (number_at m.radii i) (radius_in v x m.inverse e i) (none_holds (is_narrow v x m.radii e m.inverse) n i a.point.radii p);
-        radii_most = radii_within n x m.radii m.inverse a.range;
+        radii_most = radii_within n x r c a.range;
+        shown = record {
+          inverse = inverse_within n x r c a.range a.size.inverse;
+          bounded = all_bounded n (entry c) (jacobian_entry v x) (slope_radius v x) (weight_at v x) (number_at e) a.point.bound;
+          radii_least = λ i p. ltb-false (number_at r i) (radius_in v x c e i) (none_holds (is_narrow v x r e c) n i a.point.radii p);
+        };
       }
 
-  from_sound : IsSound v m → first_unsound v m ≡ None
+  from_sound : IsSound v m → first_broken v x r e c ≡ None
   from_sound h =
       let n = v.size in
-      let x = m.centre in
-      let e = m.mismatches in
-      let c = m.inverse in
-      from_all v x m.radii e c (record {
-        size = record { centre = h.centre.long; radii = h.radii_long; mismatches = h.mismatches_long; inverse = h.inverse.long };
-        range = first_none (is_out_of_range n x m.radii c) n (λ i p. from_ranged n x m.radii c i (record {
+      let s = h.shown in
+      from_all v x r e c (record {
+        size = record { centre = h.centre.long; radii = h.radii_long; mismatches = h.mismatches_long; inverse = s.inverse.long };
+        range = first_none (is_out_of_range n x r c) n (λ i p. from_ranged n x r c i (record {
           centre = from_part (part x i) (All-get_or IsPart x i (pos 0) (subst (λ k. i < k) (sym h.centre.long) p) h.centre.parts);
           radius = h.radii_most i p;
-          entries = λ col q. h.inverse.small i col (subst (λ k. i < k) (sym h.inverse.long) p) (subst (λ k. col < k) (sym h.inverse.long) q);
+          entries = λ col q. s.inverse.small i col (subst (λ k. i < k) (sym s.inverse.long) p) (subst (λ k. col < k) (sym s.inverse.long) q);
         }));
         point = record {
           mismatches = first_none (λ l. is_untrue (mismatch_at v x l) (number_at e l)) n (λ l p.
@@ -253,11 +256,11 @@ module _ (v : NetworkView) (m : Claim) where
               (not_past (number_at e l) (mismatch_at v x l) (h.mismatches_least l p))
               (not_past greatest_mismatch (number_at e l) (h.mismatches_most l p)));
           bound = not_refused n (entry c) (jacobian_entry v x) (slope_radius v x) (weight_at v x) (number_at e)
-              (λ i. weight_some (kind_of v i) v.stamp.draw x i) h.bounded
-              (λ i p. let least = h.radii_least i p in let most = h.radii_most i p in omega (arith, least, most));
-          radii = first_none (is_narrow v x m.radii e c) n (λ i p. not_past (number_at m.radii i) (radius_in v x c e i) (h.radii_least i p));
+              (λ i. weight_some (kind_of v i) v.stamp.draw x i) s.bounded
+              (λ i p. let least = s.radii_least i p in let most = h.radii_most i p in omega (arith, least, most));
+          radii = first_none (is_narrow v x r e c) n (λ i p. not_past (number_at r i) (radius_in v x c e i) (s.radii_least i p));
         };
       })
 
-  pub sound_exactly : HasItsBoxes v m → (first_unsound v m ≡ None) ↔ IsSound v m
+  pub sound_exactly : (IsPoint v x → bs ≡ boxes_of v x) → (first_broken v x r e c ≡ None) ↔ IsSound v m
   sound_exactly boxes = (sound_from boxes, from_sound)

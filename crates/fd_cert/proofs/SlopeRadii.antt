@@ -1,6 +1,7 @@
 -- The matrix of the radii of slopes from the cells of the Jacobian.
 use Rattle.std.proofs.Common.{◌≡◌, ◌∙◌, ℕ, zero, suc, ◌+◌, ◌*◌, ◌/◌, ◌<◌, ◌≤◌, ◌^◌, ℤ, pos, ◌≤ℤ◌, nat_abs, max, Bool, true, false, cond, eqb, List, [], ◌∷◌, length, Option, Some, None, IfSome, ◌⊎◌, arith, ap, refl, sym, subst, inl, inr}
 use Rattle.std.specs.List.{All, Contains}
+use Rattle.std.proofs.Math.Nat.{mul-le-mul_right}
 use Rattle.std.proofs.lemmas.Bool.{cases_lt}
 use Rattle.std.proofs.lemmas.Int.{ints}
 use Rattle.std.proofs.lemmas.List.{get_or_past}
@@ -32,8 +33,8 @@ use Rattle.fd_enclosure.specs.fd_equations.declared.cells.Cell.{Cell}
 use Rattle.fd_enclosure.specs.fd_slope.Changes.{centre_im, centre_magnitude, centre_re, im_width, magnitude_width, radii_in, re_width}
 use Rattle.fd_enclosure.specs.fd_slope.Radii.{radii_of}
 use Rattle.fd_enclosure.specs.fd_slope.declared.radii.Radii.{Radii}
-use Rattle.fd_enclosure.specs.Boxes.{boxes_of, half_width, half_width_by}
-use Rattle.fd_enclosure.specs.Radii.{load_radius, radius_in, slope_radius, spread, spread_magnitude, spread_node}
+use Rattle.fd_enclosure.specs.Boxes.{part_boxes, part_width, part_width_by}
+use Rattle.fd_enclosure.specs.Radii.{load_radius, part_radius, radius_in, spread, spread_magnitude, spread_node}
 use Rattle.fd_enclosure.specs.Sound.{number_at}
 use Rattle.fd_cert.specs.Columns.{AreWeights, HasEntries, HasNumbers, HasWeights, IsMade}
 use Rattle.fd_cert.specs.Places.{AreRadiusCells, HaveWidths, loads_radius, radius_cell}
@@ -151,15 +152,15 @@ loads_none box x (u ∷ us) row col h =
 -- ---- the matrix
 
 -- a radius with the numbers of summands of the Jacobian
-abbrev radius_amount : NetworkView → List ℤ → ℕ × ℕ → Amount
-radius_amount v x p = amount (pos (slope_radius v x p.0 p.1)) (count_at v.stamp.terms p.0 p.1) (slope_counts v.stamp.loads p.0 p.1)
+abbrev radius_amount : ℕ → NetworkView → List ℤ → ℕ × ℕ → Amount
+radius_amount parts v x p = amount (pos (part_radius parts v x p.0 p.1)) (count_at v.stamp.terms p.0 p.1) (slope_counts v.stamp.loads p.0 p.1)
 
-radius_is : (v : NetworkView) (x : List ℤ) (row col : ℕ)
-    → loads_radius (half_width v x) x v.stamp.loads (row, col)
+radius_is : (parts : ℕ) (v : NetworkView) (x : List ℤ) (row col : ℕ)
+    → loads_radius (part_width parts v x) x v.stamp.loads (row, col)
     + 4 * (count_at v.stamp.terms row col + slope_counts v.stamp.loads row col)
-    ≡ slope_radius v x row col
-unfolding slope_radius
-radius_is v x row col = refl
+    ≡ part_radius parts v x row col
+unfolding part_radius
+radius_is parts v x row col = refl
 
 module _ (v : NetworkView) (x : List ℤ) (j : MatrixView) (is : IsMatrix v.size j (jacobian_amount v x)) where
   pub jacobian_made : HasEntries j (jacobian_entry v x)
@@ -168,33 +169,34 @@ module _ (v : NetworkView) (x : List ℤ) (j : MatrixView) (is : IsMatrix v.size
   pub is_made : IsMade j
   is_made = record { long = is.cells.long; J = jacobian_entry v x; has = jacobian_made }
 
-  module _ (boxes : List ℕ) (box : HasNumbers v.size boxes (half_width v x))
+  module _ (parts : ℕ) (boxes : List ℕ) (box : HasNumbers v.size boxes (part_width parts v x))
       (connected : All (IsConnected v.size) v.stamp.loads) (radii : List ℕ) (made : List Cell) (of_loads : (k : ℕ)
       → k < length j.places → number_at radii k ≡ loads_radius (number_at boxes) x v.stamp.loads (key j.places k))
       (cells : AreRadiusCells j.cells radii made) where
     radius_at_place : (k : ℕ) → k < length j.places
-        → cell_at made k ≡ cell_of (key j.places k).1 (radius_amount v x (key j.places k))
+        → cell_at made k ≡ cell_of (key j.places k).1 (radius_amount parts v x (key j.places k))
     radius_at_place k l =
         let p = key j.places k in
         let inside : k < length j.cells = subst (λ n. k < n) (sym is.cells.long) l in
-        let radius = of_loads k l ∙ loads_same v.size (number_at boxes) (half_width v x) box x v.stamp.loads p connected in
+        let radius = of_loads k l ∙ loads_same v.size (number_at boxes) (part_width parts v x) box x v.stamp.loads p connected in
         cells.each k inside
         ∙ (λ i. radius_cell (is.cells.each k l i) (radius i))
-        ∙ (λ i. cell_of p.1 (amount (pos (radius_is v x p.0 p.1 i)) (count_at v.stamp.terms p.0 p.1)
+        ∙ (λ i. cell_of p.1 (amount (pos (radius_is parts v x p.0 p.1 i)) (count_at v.stamp.terms p.0 p.1)
         (slope_counts v.stamp.loads p.0 p.1)))
 
-    nothing_there : (p : ℕ × ℕ) → ¬ (Contains j.places p) → radius_amount v x p ≡ nothing
+    nothing_there : (p : ℕ × ℕ) → ¬ (Contains j.places p) → radius_amount parts v x p ≡ nothing
     nothing_there p away =
         let none = is.nothing p away in
         let c : count_at v.stamp.terms p.0 p.1 ≡ 0 = ap (λ (a : Amount). a.count) none in
         let s : slope_counts v.stamp.loads p.0 p.1 ≡ 0 = ap (λ (a : Amount). a.slopes) none in
-        let r : slope_radius v x p.0 p.1 ≡ 0 = sym (radius_is v x p.0 p.1) ∙ (λ i. loads_none (half_width v x) x v.stamp.loads p.0 p.1 s i + 4 * (c i + s i)) in
+        let r : part_radius parts v x p.0 p.1 ≡ 0 =
+        sym (radius_is parts v x p.0 p.1) ∙ (λ i. loads_none (part_width parts v x) x v.stamp.loads p.0 p.1 s i + 4 * (c i + s i)) in
         λ i. amount (pos (r i)) (c i) (s i)
 
     pub radii_made : (m : MatrixView) → m ≡ (record { size = j.size; places = j.places; cells = made })
-        → HasRadii m (slope_radius v x)
-    radii_made m e = subst (λ w. HasRadii w (slope_radius v x)) (sym e) (record {
-      at = radius_amount v x;
+        → HasRadii m (part_radius parts v x)
+    radii_made m e = subst (λ w. HasRadii w (part_radius parts v x)) (sym e) (record {
+      at = radius_amount parts v x;
       cells = record { long = cells.long ∙ is.cells.long; each = radius_at_place };
       nothing = nothing_there;
       entries = λ row col. refl;
@@ -208,34 +210,36 @@ part_small x i h = elim (cases_lt i (length x)) [
   | inr ge ↦ subst (λ z. nat_abs z ≤ 2 ^ 40) (sym (get_or_past x i (pos 0) ge)) (omega arith)
 ]
 
-narrow : (n : ℕ) → n ≤ 2 ^ 41 → ceil_nat n 200 ≤ 2 ^ 40
-narrow n h = ceil_nat_least n 200 (2 ^ 40) (omega arith) (omega arith)
+narrow : (parts n : ℕ) → 2 ≤ parts → n ≤ 2 ^ 41 → ceil_nat n parts ≤ 2 ^ 40
+narrow parts n two h = let p = mul-le-mul_right (2 ^ 40) two in ceil_nat_least n parts (2 ^ 40) (omega arith) (omega arith)
 
-width_by : (k : PlaceKind) (v : NetworkView) (x : List ℤ) (i : ℕ) → All IsPart x
-    → half_width_by k (weight_by k v.stamp.draw x i) ≤ 2 ^ 40
-width_by NodePlace v x i h =
+width_by : (parts : ℕ) → 2 ≤ parts → (k : PlaceKind) (v : NetworkView) (x : List ℤ) (i : ℕ) → All IsPart x
+    → part_width_by parts k (weight_by k v.stamp.draw x i) ≤ 2 ^ 40
+width_by parts two NodePlace v x i h =
     let a = part_small x (2 * (i / 2)) h in
     let b = part_small x (2 * (i / 2) + 1) h in
-    narrow (max (10 ^ 6) (size_of_both x i)) (omega arith)
-width_by Branch v x i h = omega arith
-width_by Magnitude v x i h = let a = part_small x i h in narrow (max (10 ^ 6) (nat_abs (part x i))) (omega arith)
+    narrow parts (max (10 ^ 6) (size_of_both x i)) two (omega arith)
+width_by parts two Branch v x i h = omega arith
+width_by parts two Magnitude v x i h =
+    let a = part_small x i h in narrow parts (max (10 ^ 6) (nat_abs (part x i))) two (omega arith)
 
-module _ (v : NetworkView) (x : List ℤ) (boxes : List ℕ) (is : boxes ≡ boxes_of v x) where
-  pub boxes_at : HasNumbers v.size boxes (half_width v x)
-  boxes_at i l = ap (λ bs. number_at bs i) is ∙ get_or-list_of v.size (half_width v x) i 0 l
+module _ (parts : ℕ) (v : NetworkView) (x : List ℤ) (boxes : List ℕ) (is : boxes ≡ part_boxes parts v x) where
+  pub boxes_at : HasNumbers v.size boxes (part_width parts v x)
+  boxes_at i l = ap (λ bs. number_at bs i) is ∙ get_or-list_of v.size (part_width parts v x) i 0 l
 
-  pub have_widths : IsPoint v x → HaveWidths (length x) boxes
-  have_widths p = record {
-    long = ap length is ∙ length-list_of v.size (half_width v x) ∙ sym p.long;
-    small = λ i l. subst (λ n. n ≤ 2 ^ 40) (sym (boxes_at i (subst (λ n. i < n) p.long l))) (width_by (kind_of v i) v x i p.parts);
+  pub have_widths : 2 ≤ parts → IsPoint v x → HaveWidths (length x) boxes
+  have_widths two p = record {
+    long = ap length is ∙ length-list_of v.size (part_width parts v x) ∙ sym p.long;
+    small = λ i l.
+        subst (λ n. n ≤ 2 ^ 40) (sym (boxes_at i (subst (λ n. i < n) p.long l))) (width_by parts two (kind_of v i) v x i p.parts);
   }
 
-pub boxes_are : (v : NetworkView) (x ws : List ℤ) (boxes : List ℕ) → HasWeights v.size ws (weight_at v x)
-    → boxes ≡ list_of v.size (λ i. half_width_by (kind_of v i) (nat_abs (part ws i))) → boxes ≡ boxes_of v x
-boxes_are v x ws boxes h e =
+pub boxes_are : (parts : ℕ) (v : NetworkView) (x ws : List ℤ) (boxes : List ℕ) → HasWeights v.size ws (weight_at v x)
+    → boxes ≡ list_of v.size (λ i. part_width_by parts (kind_of v i) (nat_abs (part ws i))) → boxes ≡ part_boxes parts v x
+boxes_are parts v x ws boxes h e =
     e
-    ∙ map-same (λ i. half_width_by (kind_of v i) (nat_abs (part ws i))) (half_width v x) v.size 0
-    (λ i l. ap (λ z. half_width_by (kind_of v i) (nat_abs z)) (h i l))
+    ∙ map-same (λ i. part_width_by parts (kind_of v i) (nat_abs (part ws i))) (part_width parts v x) v.size 0
+    (λ i l. ap (λ z. part_width_by parts (kind_of v i) (nat_abs z)) (h i l))
 
 pub weights_at : (v : NetworkView) (x ws : List ℤ) → ws ≡ weights_of v x → HasWeights v.size ws (weight_at v x)
 weights_at v x ws e i l = ap (λ xs. part xs i) e ∙ get_or-list_of v.size (λ place. pos (weight_at v x place)) i (pos 0) l

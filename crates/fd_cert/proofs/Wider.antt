@@ -8,7 +8,7 @@ use Rattle.fd_enclosure.specs.fd_system.Residual.{whole_state}
 use Rattle.fd_enclosure.specs.Boxes.{boxes_of}
 use Rattle.fd_enclosure.specs.Encloses.{EnclosureLaw}
 use Rattle.fd_enclosure.specs.Radii.{slope_radius}
-use Rattle.fd_enclosure.specs.Sound.{Claim, IsSound, greatest_mismatch, number_at, radii_of, radius_in}
+use Rattle.fd_enclosure.specs.Sound.{Claim, HasInverse, IsByInverse, IsInverse, IsSound, Support, by_inverse, by_rows, greatest_mismatch, inverse_in, number_at, radii_of, radius_in}
 use Rattle.fd_enclosure.proofs.CallerLemmas.{all_bounded, all_narrow, centre_meets}
 use Rattle.fd_enclosure.proofs.CallerLemmas.fd_equations.{get_or-list_of, length-list_of}
 use Rattle.fd_cert.specs.Agreement.{AgreementLaw}
@@ -31,34 +31,44 @@ read_radius : (v : NetworkView) (x : List ℤ) (c : List (List ℤ)) (e : List �
 unfolding radii_of
 read_radius v x c e i l = get_or-list_of v.size (radius_in v x c e) i 0 l
 
+of_inverse : (n : ℕ) (s : Support) → HasInverse n s → IsInverse n (inverse_in s)
+of_inverse n (by_inverse c) h = h
+of_inverse n (by_rows p) h = absurd h
+
+pub is_by_inverse : (n : ℕ) (s : Support) → HasInverse n s → IsByInverse s
+is_by_inverse n (by_inverse c) h = tt
+is_by_inverse n (by_rows p) h = absurd h
+
 pub widens : WideningLaw
 widens v m e here fit wider none =
     let n = v.size in
     let x = m.centre in
-    let c = m.inverse in
+    let c = inverse_in m.support in
     let certain = unnamed (refusal_of v x e c) none in
     record {
       centre = here.centre;
-      inverse = here.inverse;
       boxes = refl;
       mismatches_long = fit.long;
       mismatches_least = wider;
       mismatches_most = fit.most;
-      bounded = all_bounded n (entry c) (jacobian_entry v x) (slope_radius v x) (weight_at v x) (number_at e) certain;
       radii_long = length-radii v x c e;
-      radii_least = λ i l. let same = read_radius v x c e i l in omega (arith, same);
       radii_most = λ i l.
           subst (λ k. k ≤ 2 ^ 40) (sym (read_radius v x c e i l))
           (all_narrow n (entry c) (jacobian_entry v x) (slope_radius v x) (weight_at v x) (number_at e) certain i l);
+      shown = record {
+        inverse = of_inverse n m.support here.inverse;
+        bounded = all_bounded n (entry c) (jacobian_entry v x) (slope_radius v x) (weight_at v x) (number_at e) certain;
+        radii_least = λ i l. let same = read_radius v x c e i l in omega (arith, same);
+      };
     }
 
 -- the lists of what was made
 pub made_is : (v : NetworkView) (m w : Claim) (e rs bs : List ℕ)
-    → w ≡ record { centre = m.centre; radii = rs; mismatches = e; boxes = bs; inverse = m.inverse }
-    → bs ≡ boxes_of v m.centre → rs ≡ list_of v.size (radius_in v m.centre m.inverse e) → w ≡ widened v m e
+    → w ≡ record { centre = m.centre; radii = rs; mismatches = e; boxes = bs; support = by_inverse (inverse_in m.support) }
+    → bs ≡ boxes_of v m.centre → rs ≡ list_of v.size (radius_in v m.centre (inverse_in m.support) e) → w ≡ widened v m e
 unfolding radii_of
 made_is v m w e rs bs is boxes radii =
-    is ∙ (λ i. record { centre = m.centre; radii = radii i; mismatches = e; boxes = boxes i; inverse = m.inverse })
+    is ∙ (λ i. record { centre = m.centre; radii = radii i; mismatches = e; boxes = boxes i; support = by_inverse (inverse_in m.support) })
 
 pub agrees : EnclosureLaw → AgreementLaw
 agrees encloses v m x net sound is =
@@ -72,13 +82,13 @@ agrees encloses v m x net sound is =
 
 module _ (v : NetworkView) (m : Claim) (e : List ℕ) where
   pub is_wide : (place : ℕ) (sum : Option ℤ)
-      → IsRefused v.size (entry m.inverse) (jacobian_entry v m.centre) (slope_radius v m.centre) (weight_at v m.centre) (number_at e) place sum
+      → IsRefused v.size (entry (inverse_in m.support)) (jacobian_entry v m.centre) (slope_radius v m.centre) (weight_at v m.centre) (number_at e) place sum
       → wide_place v m e ≡ Some place
   is_wide place sum is = ap place_named is.refusal
 
   pub is_made : (w : Claim) (rs bs : List ℕ)
-      → AreWithin v.size (entry m.inverse) (jacobian_entry v m.centre) (slope_radius v m.centre) (weight_at v m.centre) (number_at e) rs
-      → w ≡ record { centre = m.centre; radii = rs; mismatches = e; boxes = bs; inverse = m.inverse } → bs ≡ boxes_of v m.centre
+      → AreWithin v.size (entry (inverse_in m.support)) (jacobian_entry v m.centre) (slope_radius v m.centre) (weight_at v m.centre) (number_at e) rs
+      → w ≡ record { centre = m.centre; radii = rs; mismatches = e; boxes = bs; support = by_inverse (inverse_in m.support) } → bs ≡ boxes_of v m.centre
       → (wide_place v m e ≡ None) × (w ≡ widened v m e)
   is_made w rs bs is same boxes = (ap place_named is.refusal, made_is v m w e rs bs same boxes is.radii)
 

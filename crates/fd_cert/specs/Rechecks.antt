@@ -3,14 +3,13 @@ use Rattle.std.specs.Prelude.{◌≡◌, ℕ, ◌==◌, ◌&&◌, ◌||◌, ◌^
 use Rattle.fd_enclosure.specs.fd_exact.First.{first_place}
 use Rattle.fd_enclosure.specs.fd_exact.States.{entry, part}
 use Rattle.fd_enclosure.specs.fd_mat.Rows.{row_of}
-use Rattle.fd_enclosure.specs.fd_pattern.Conditions.{IsPoint}
 use Rattle.fd_enclosure.specs.fd_equations.Rounded.{jacobian_entry}
 use Rattle.fd_enclosure.specs.fd_pattern.Views.{NetworkView}
 use Rattle.fd_enclosure.specs.fd_equations.Weights.{weight_at}
 use Rattle.fd_enclosure.specs.Bounds.{refusal}
 use Rattle.fd_enclosure.specs.Boxes.{boxes_of}
 use Rattle.fd_enclosure.specs.Radii.{slope_radius}
-use Rattle.fd_enclosure.specs.Sound.{Claim, greatest_mismatch, mismatch_at, number_at, radius_in}
+use Rattle.fd_enclosure.specs.Sound.{Claim, by_inverse, greatest_mismatch, inverse_in, mismatch_at, number_at, radius_in}
 use Rattle.fd_cert.specs.Claims.{claim_in}
 use Rattle.fd_cert.specs.declared.ball.Certified.{Certified}
 use Rattle.fd_cert.specs.declared.rule.Broken.{Broken}
@@ -70,19 +69,15 @@ first_broken v x r e c =
     (broken_at Range (first_place (is_out_of_range v.size x r c) v.size) (first_at_point v x r e c))
     (Some (record { rule = Size; place = 0 }))
 
--- the first rule that a claim breaks, at the least place at which it breaks it. It doesn't look at the boxes.
+-- The first rule that a claim by an inverse breaks, at the least place at which it breaks it. It doesn't look at the boxes.
 abbrev pub first_unsound : NetworkView → Claim → Option Broken
-first_unsound v m = first_broken v m.centre m.radii m.mismatches m.inverse
+first_unsound v m = first_broken v m.centre m.radii m.mismatches (inverse_in m.support)
 
 -- ---- boxes
 
--- where the centre is a point, the claim's boxes are those of its centre
-abbrev pub HasItsBoxes : NetworkView → Claim → Type 0
-HasItsBoxes v m = IsPoint v m.centre → m.boxes ≡ boxes_of v m.centre
-
--- a claim with the boxes of its centre
+-- a claim by an inverse with the boxes of its centre
 abbrev pub boxed_claim : NetworkView → List ℤ → List ℕ → List ℕ → List (List ℤ) → Claim
-boxed_claim v x r e c = record { centre = x; radii = r; mismatches = e; boxes = boxes_of v x; inverse = c }
+boxed_claim v x r e c = record { centre = x; radii = r; mismatches = e; boxes = boxes_of v x; support = by_inverse c }
 
 -- a certified state is this claim, which breaks no rule; or the first that it breaks
 abbrev pub IsBoxed : NetworkView → Claim → Result Certified Broken → Type 0

@@ -3,7 +3,7 @@ use Rattle.std.specs.Prelude.{◌≡◌, ℕ, ◌<◌, ◌≤◌, List, length, 
 use Rattle.fd_enclosure.specs.fd_pattern.Views.{NetworkView}
 use Rattle.fd_enclosure.specs.fd_pattern.Conditions.{IsPoint}
 use Rattle.fd_enclosure.specs.Boxes.{boxes_of}
-use Rattle.fd_enclosure.specs.Sound.{Claim, IsInverse, IsSound, greatest_mismatch, mismatch_at, number_at, radii_of}
+use Rattle.fd_enclosure.specs.Sound.{Claim, HasInverse, IsSound, by_inverse, greatest_mismatch, inverse_in, mismatch_at, number_at, radii_of}
 use Rattle.fd_cert.specs.Claims.{claim_in}
 use Rattle.fd_cert.specs.Rechecks.{place_named, refusal_of}
 use Rattle.fd_cert.specs.declared.widening.Widened.{Widened}
@@ -12,7 +12,7 @@ use Rattle.fd_cert.specs.declared.widening.Widened.TheVariants.{Made, Wide}
 -- a point and an inverse of the network's size, whatever else is claimed of them
 pub record IsOfPoint (v : NetworkView) (m : Claim) : Type 0 where
   pub centre : IsPoint v m.centre
-  pub inverse : IsInverse v.size m.inverse
+  pub inverse : HasInverse v.size m.support
 
 -- a mismatch for each row, at most the greatest
 pub record AreMismatches (v : NetworkView) (e : List ℕ) : Type 0 where
@@ -27,15 +27,15 @@ AreWider v m e = (l : ℕ) → l < v.size → mismatch_at v m.centre l ≤ numbe
 abbrev pub widened : NetworkView → Claim → List ℕ → Claim
 widened v m e = record {
   centre = m.centre;
-  radii = radii_of v m.centre m.inverse e;
+  radii = radii_of v m.centre (inverse_in m.support) e;
   mismatches = e;
   boxes = boxes_of v m.centre;
-  inverse = m.inverse;
+  support = by_inverse (inverse_in m.support);
 }
 
 -- the first unknown whose bound with these mismatches reaches one; where there is none, the first whose radius is too wide
 abbrev pub wide_place : NetworkView → Claim → List ℕ → Option ℕ
-wide_place v m e = place_named (refusal_of v m.centre e m.inverse)
+wide_place v m e = place_named (refusal_of v m.centre e (inverse_in m.support))
 
 -- what a claim comes to with these mismatches
 abbrev pub IsWidened : NetworkView → Claim → List ℕ → Widened → Type 0

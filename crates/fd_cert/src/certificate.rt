@@ -6,19 +6,20 @@ ghost use Rattle.fd_enclosure.specs.fd_equations.Matrices.{IsMatrix, jacobian_am
 ghost use Rattle.fd_enclosure.specs.fd_equations.Rounded.{jacobian_entry, list_of};
 ghost use Rattle.fd_enclosure.specs.fd_equations.Weights.{weight_at};
 ghost use Rattle.fd_enclosure.specs.Bounds.{bound_at};
-ghost use Rattle.fd_enclosure.specs.Boxes.{boxes_of};
-ghost use Rattle.fd_enclosure.specs.Radii.{slope_radius};
-ghost use Rattle.fd_enclosure.specs.Sound.{certificate_of};
+ghost use Rattle.fd_enclosure.specs.Boxes.{boxes_of, part_boxes};
+ghost use Rattle.fd_enclosure.specs.Radii.{part_radius, slope_radius};
+ghost use Rattle.fd_enclosure.specs.Sound.{by_inverse, certificate_of};
 ghost use Rattle.fd_enclosure.specs.fd_mat.Rows.{EntriesWithin};
 ghost use Rattle.fd_cert.specs.Claims.{IsInside, Refuses, claim_in};
 ghost use Rattle.fd_cert.specs.Columns.{AreWeights, HasNumbers, HasWeights};
+ghost use Rattle.fd_cert.specs.Places.{HaveWidths};
 ghost use Rattle.fd_cert.specs.Reaches.{AreBounds, AreTight};
 ghost use Rattle.fd_cert.specs.Slopes.{HasRadii};
 ghost use Rattle.fd_cert.specs.Verdicts.{IsWidths};
 
-use crate::ball::{Ball, Certified};
+use crate::ball::{Ball, Certified, Support};
 use crate::bounds::{Slopes, bounds, rows_by_weight, short_weights};
-use crate::boxes::boxes;
+use crate::boxes::half_widths;
 use crate::fault::CertFault;
 use crate::mismatches::{first_loose, mismatches};
 use crate::parted::parts_of;
@@ -27,6 +28,9 @@ use crate::reach::{first_unbounded, first_wide, greatest_bound, greatest_reach, 
 use crate::sums::Walk;
 use fd_enclosure::{Dense, Matrix, NetworkRows, Point};
 use std::alloc::{AllocError, Global};
+
+// The box of a certificate by an inverse is this part of the weights.
+const PARTS_OF_WEIGHT: u32 = 200;
 
 // The radius of each unknown; or the unknown at which there is no certificate, with its bound.
 #[derive(Drop)]
@@ -77,8 +81,11 @@ fn bounds_at(
     bounds(alloc, &slopes, inverse)
 }
 
-// The radii of slopes in the box around the point x, at the places of its Jacobian.
-fn radii_at<'a>(
+/// The radii of slopes in a box around the point x, at the places of its Jacobian, in units of 2^-40.
+///
+/// # Errors
+/// `AllocError` where memory is refused.
+pub fn radii_at<'a>(
     alloc: Global,
     net: &NetworkRows,
     x: &[i128],
@@ -86,10 +93,11 @@ fn radii_at<'a>(
     jacobian: &Matrix<'a>,
 ) -> Result<Matrix<'a>, AllocError>
     requires point { IsPoint net.now x.now }
-    requires boxes { boxes.now ≡ boxes_of net.now x.now }
+    requires boxes { HaveWidths (length x.now) boxes.now }
     requires jacobian { IsMatrix net.now.size jacobian.now (jacobian_amount net.now x.now) }
     ensures size { IfOk result (λ m. m.size ≡ net.now.size) }
-    ensures radii { IfOk result (λ m. HasRadii m (slope_radius net.now x.now)) }
+    ensures radii { IfOk result (λ m. (parts : ℕ) → boxes.now ≡ part_boxes parts net.now x.now
+        → HasRadii m (part_radius parts net.now x.now)) }
     ensures long { IfOk result (λ m. length m.cells ≡ length m.places) }
 {
     // read for what a network is
@@ -156,7 +164,7 @@ pub(crate) fn judge(
     // read for its bound alone
     let _size = net.size();
     let weights = net.weights(alloc, x)?;
-    let boxes = boxes(alloc, net, &weights)?;
+    let boxes = half_widths(alloc, net, &weights, PARTS_OF_WEIGHT)?;
     let bounds = bounds_at(alloc, net, x, inverse, &boxes, &weights)?;
     let widths = verdict(alloc, inverse, mismatch, &bounds, &weights)?;
     Ok(Judged { boxes, widths })
@@ -212,7 +220,7 @@ fn certified(point: Point, radius: Vec<u128>, mismatch: Vec<u128>, boxes: Vec<u1
       radii = radius.items;
       mismatches = mismatch.items;
       boxes = boxes.items;
-      inverse = point.inverse;
+      support = by_inverse point.inverse;
     } }
 {
     Certified {
@@ -222,6 +230,6 @@ fn certified(point: Point, radius: Vec<u128>, mismatch: Vec<u128>, boxes: Vec<u1
         },
         mismatch,
         boxes,
-        inverse: point.inverse,
+        support: Support::Inverse(point.inverse),
     }
 }

@@ -34,8 +34,9 @@ mod sums;
 mod totals;
 mod widening;
 
-pub use ball::{Ball, Certified};
-pub use certificate::certify;
+pub use ball::{Ball, Certified, DerivedRows, Support};
+pub use boxes::half_widths;
+pub use certificate::{certify, radii_at};
 pub use fault::CertFault;
 pub use mismatches::{first_loose, mismatches as row_mismatches};
 pub use rechecking::{boxed, recheck};

@@ -4,9 +4,9 @@ ghost use Rattle.fd_enclosure.specs.fd_pattern.Conditions.{IsPoint};
 ghost use Rattle.fd_enclosure.specs.Boxes.{boxes_of};
 ghost use Rattle.fd_enclosure.specs.Sound.{IsInverse, IsSound};
 ghost use Rattle.fd_cert.specs.Claims.{claim_in};
-ghost use Rattle.fd_cert.specs.Rechecks.{HasItsBoxes, IsBoxed, Tells, boxed_claim, first_at_point, first_broken, first_unsound};
+ghost use Rattle.fd_cert.specs.Rechecks.{IsBoxed, Tells, boxed_claim, first_at_point, first_broken};
 
-use crate::ball::{Ball, Certified};
+use crate::ball::{Ball, Certified, Support};
 use crate::certificate::{Judged, Widths, judge};
 use crate::mismatches::{first_untrue, mismatches};
 use crate::range::{first_out_of_range, has_size};
@@ -88,37 +88,30 @@ fn tested(
     }
 }
 
-/// The first rule that a claim on a network breaks; none exactly where the claim is sound, whoever made it.
+/// The first rule that a claim by an inverse breaks on a network; none exactly where the claim is sound, whoever made it.
 ///
 /// In this order: `Size`, where the centre, the radii, the mismatches or the inverse hasn't the network's size; `Range`, at the first
 /// unknown whose centre or radius is above 2^40 in size, or whose row of the inverse has an entry above 2^56; `Mismatch`, at the first row
 /// whose mismatch is below the state's own or above 1,000; `Bound`, at the unknown that a refusal of a certificate with these mismatches
 /// names; and `Radius`, at the first unknown whose radius is below what the mismatches and the bound give. All is computed anew, in whole
-/// numbers. The boxes are not tested: they are to be those of the centre, where the centre is a point of the network. The rule is this
-/// profile's.
+/// numbers, and its boxes are those of the centre. The rule is this profile's.
 ///
 /// # Errors
 /// `AllocError` where memory is refused.
 pub fn recheck(
     alloc: Global,
     net: &NetworkRows,
-    claim: &Certified,
+    ball: &Ball,
+    mismatch: &[u128],
+    inverse: &Dense,
 ) -> Result<Option<Broken>, AllocError>
-    requires boxes { HasItsBoxes net.now (claim_in claim.now) }
-    ensures first { IfOk result (λ b. b ≡ first_unsound net.now (claim_in claim.now)) }
-    ensures sound { IfOk result (λ b. (b ≡ None) ↔ IsSound net.now (claim_in claim.now)) }
+    ensures first { IfOk result (λ b. b ≡ first_broken net.now ball.now.centre.items ball.now.radius.items mismatch.now inverse.now) }
+    ensures sound { IfOk result (λ b. (b ≡ None)
+        ↔ IsSound net.now (boxed_claim net.now ball.now.centre.items ball.now.radius.items mismatch.now inverse.now)) }
 {
     // read for what a network is
     let _size = net.size();
-    let ball = &claim.ball;
-    match tested(
-        alloc,
-        net,
-        &ball.centre,
-        &ball.radius,
-        &claim.mismatch,
-        &claim.inverse,
-    )? {
+    match tested(alloc, net, &ball.centre, &ball.radius, mismatch, inverse)? {
         Ok(_boxes) => Ok(None),
         Err(broken) => Ok(Some(broken)),
     }
@@ -147,7 +140,7 @@ pub fn boxed(
             ball,
             mismatch,
             boxes,
-            inverse,
+            support: Support::Inverse(inverse),
         })),
         Err(broken) => Ok(Err(broken)),
     }

@@ -4,7 +4,7 @@ ghost use Rattle.fd_cert.specs.Agreement.{AgreementLaw};
 ghost use Rattle.fd_cert.specs.Claims.{claim_in};
 ghost use Rattle.fd_cert.specs.Widening.{AreMismatches, IsOfPoint, IsSoundOnceMade, IsWidened, WideningLaw};
 
-use crate::ball::{Ball, Certified};
+use crate::ball::{Ball, Certified, Support};
 use crate::certificate::{Judged, Widths, judge};
 use fd_enclosure::{Dense, NetworkRows, enclosure_law};
 use std::alloc::{AllocError, Global};
@@ -59,7 +59,8 @@ pub fn widen(
     // read for what a network is
     let _size = net.size();
     let ball = &certified.ball;
-    let judged = judge(alloc, net, &ball.centre, &certified.inverse, &mismatch)?;
+    let inverse = certified.inverse();
+    let judged = judge(alloc, net, &ball.centre, inverse, &mismatch)?;
     let Judged { boxes, widths } = judged;
     match widths {
         Widths::Refused { place, .. } => Ok(Widened::Wide { place }),
@@ -70,7 +71,7 @@ pub fn widen(
             },
             mismatch,
             boxes,
-            inverse: copy_of(alloc, &certified.inverse)?,
+            support: Support::Inverse(copy_of(alloc, inverse)?),
         })),
     }
 }

@@ -27,7 +27,7 @@ use Rattle.fd_factors.specs.Enclosure as factors
 use Rattle.fd_enclosure.specs.Boxes.{IsInPart, part_width}
 use Rattle.fd_enclosure.specs.Encloses.{ChangeLaw, EnclosureLaw, IsAlternative, IsImpedance, IsWithinRadii, LinearLaw}
 use Rattle.fd_enclosure.specs.Radii.{part_radius, slope_radius}
-use Rattle.fd_enclosure.specs.Sound.{Claim, DerivedProof, IsShown, IsShownByInverse, IsShownByRows, IsSound, Support, by_inverse, by_rows, derived_row, number_at, parts_of}
+use Rattle.fd_enclosure.specs.Sound.{Claim, DerivedProof, IsShown, IsShownByInverse, IsShownByRows, IsSound, Support, by_inverse, by_rows, row_in, number_at, parts_of}
 use Rattle.fd_enclosure.proofs.Contraction.{enclosed}
 use Rattle.fd_enclosure.proofs.Network.{RowFollows, linear_changes}
 use Rattle.fd_enclosure.proofs.Residuals.{centre_meets, residual_positive}
@@ -203,7 +203,7 @@ module _ (factors : factors.EnclosureLaw) (v : NetworkView) (m : Claim) (net : I
   rows_within box follows x over inside meets i h =
       narrowed (2 ^ 20) (nat_abs (away m.centre x i)) x.over (number_at p.bounds i) (number_at m.radii i) (lit< tt)
       (factors v.size (length p.rows) (residual_of v.stamp) box m.centre (jacobian_entry v m.centre) (part_radius p.parts v m.centre)
-      (derived_row p.rows) (number_at p.bounding) (number_at m.mismatches) (2 ^ 20) (number_at p.heights) (number_at p.bounds)
+      (row_in p.rows) (number_at p.bounding) (number_at m.mismatches) (2 ^ 20) (number_at p.heights) (number_at p.bounds)
       (λ y l o. residual_positive v net y l o) follows (centre_meets_all v m net sound) shown.above shown.bounded x over inside meets i h)
       (shown.radii_least i h)
 

@@ -62,6 +62,11 @@ abbrev pub inverse_in : Support → List (List ℤ)
 inverse_in (by_inverse c) = c
 inverse_in (by_rows p) = []
 
+-- it is an inverse
+abbrev pub IsByInverse : Support → Type 0
+IsByInverse (by_inverse c) = Unit {0}
+IsByInverse (by_rows p) = ⊥
+
 -- A state, how far from it any other may be, and what shows it: the mismatch of each row, the half-widths of the box in which the others
 -- are looked for, and its support. By place, in whole microvolts and microamperes.
 pub record Claim : Type 0 where
@@ -79,6 +84,11 @@ number_at xs i = get_or xs i 0
 pub record IsInverse (n : ℕ) (c : List (List ℤ)) : Type 0 where
   pub long : length c ≡ n
   pub small : EntriesWithin c (2 ^ 56)
+
+-- it is an inverse of n rows
+abbrev pub HasInverse : ℕ → Support → Type 0
+HasInverse n (by_inverse c) = IsInverse n c
+HasInverse n (by_rows p) = ⊥
 
 -- ---- its numbers
 
@@ -102,8 +112,8 @@ pub record IsShownByInverse (v : NetworkView) (m : Claim) (c : List (List ℤ)) 
   pub radii_least : (i : ℕ) → i < v.size → radius_in v m.centre c m.mismatches i ≤ number_at m.radii i
 
 -- row i of derived rows
-abbrev pub derived_row : List DerivedRow → ℕ → DerivedRow
-derived_row rows i = get_or rows i (record { equations = []; others = []; left = [] })
+abbrev pub row_in : List DerivedRow → ℕ → DerivedRow
+row_in rows i = get_or rows i (record { equations = []; others = []; left = [] })
 
 -- the right sides of the rows for these mismatches: a state and its centre may each be off by one
 abbrev pub right_side : List ℕ → ℕ → ℕ
@@ -112,10 +122,10 @@ right_side e l = 2 ^ 20 * (2 * number_at e l)
 -- By derived rows: the height of each stands above it, each unknown has a row that bounds it, and each radius is at least its bound.
 pub record IsShownByRows (v : NetworkView) (m : Claim) (p : DerivedProof) : Type 0 where
   pub above : (i : ℕ) → i < length p.rows
-      → IsAbove v.size (length p.rows) (2 ^ 40) (jacobian_entry v m.centre) (part_radius p.parts v m.centre) (derived_row p.rows)
+      → IsAbove v.size (length p.rows) (2 ^ 40) (jacobian_entry v m.centre) (part_radius p.parts v m.centre) (row_in p.rows)
       (right_side m.mismatches) (number_at p.heights) (number_at p.bounds) i
   pub bounded : (j : ℕ) → j < v.size
-      → BoundsUnknown v.size (length p.rows) (2 ^ 40) (jacobian_entry v m.centre) (part_radius p.parts v m.centre) (derived_row p.rows)
+      → BoundsUnknown v.size (length p.rows) (2 ^ 40) (jacobian_entry v m.centre) (part_radius p.parts v m.centre) (row_in p.rows)
       (right_side m.mismatches) (number_at p.heights) (number_at p.bounds) (number_at p.bounding j) j
   pub radii_least : (j : ℕ) → j < v.size → number_at p.bounds j ≤ 2 ^ 20 * number_at m.radii j
 

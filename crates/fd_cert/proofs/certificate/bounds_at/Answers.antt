@@ -1,4 +1,4 @@
-use Rattle.std.proofs.Common.{◌∙◌, ◌≤◌, ◌^◌, ap, sym, subst}
+use Rattle.std.proofs.Common.{arith, ◌∙◌, ◌≤◌, ◌^◌, ap, sym, subst}
 use Rattle.std.proofs.lemmas.Result.{IfOk-weaker}
 use Rattle.fd_enclosure.specs.fd_exact.States.{entry}
 use Rattle.fd_enclosure.specs.fd_equations.Matrices.{MatrixView}
@@ -9,11 +9,15 @@ use Rattle.fd_enclosure.specs.Radii.{slope_radius}
 use Rattle.fd_cert.specs.Columns.{AreWeights, HasWeights}
 use Rattle.fd_cert.specs.Slopes.{AreSlopes, HasSlopes}
 use Rattle.fd_cert.specs.Totals.{AreWeighted}
-use Rattle.fd_cert.proofs.SlopeRadii.{is_made, jacobian_made}
+use Rattle.fd_cert.proofs.SlopeRadii.{have_widths, is_made, jacobian_made}
 use Rattle.fd_cert.proofs.certificate.bounds_at.Goals as goal
 
+pub radii_at-requires-clause-boxes : goal.radii_at-requires-clause-boxes
+radii_at-requires-clause-boxes c =
+    have_widths 200 c.args.net.now c.args.x.now c.args.boxes.now c.requires.boxes (omega arith) c.requires.point
+
 pub rows_by_weight-requires-clause-radii : goal.rows_by_weight-requires-clause-radii
-rows_by_weight-requires-clause-radii c = record { long = c.in_ok-radii.ensures.long; J = _; has = c.in_ok-radii.ensures.radii }
+rows_by_weight-requires-clause-radii c = record { long = c.in_ok-radii.ensures.long; J = _; has = c.in_ok-radii.ensures.radii 200 c.requires.boxes }
 
 pub of-requires : goal.of-requires
 of-requires c = is_made c.args.net.now c.args.x.now c.in_ok-jacobian.jacobian c.in_ok-jacobian.ensures
@@ -27,7 +31,7 @@ bounds-requires-clause-slopes c =
     let j = c.in_ok-jacobian.jacobian in
     let is = c.in_ok-jacobian.ensures in
     let size = c.in_ok-radii.ensures.size in
-    let radii = c.in_ok-rows.ensures (slope_radius v x) w c.in_ok-radii.ensures.radii (subst (λ n. HasWeights n ws w) (sym size) c.requires.values) in
+    let radii = c.in_ok-rows.ensures (slope_radius v x) w (c.in_ok-radii.ensures.radii 200 c.requires.boxes) (subst (λ n. HasWeights n ws w) (sym size) c.requires.values) in
     let plain : AreSlopes j c.in_ok-rows.rows.items ws = record {
       small = subst (λ n. n ≤ 2 ^ 11) (sym is.size) (subst (λ n. n ≤ 2 ^ 11) c.size-size.ensures.size c.size-size.ensures.small);
       jacobian = is_made v x j is;
@@ -47,7 +51,7 @@ returns c =
     let j = c.in_ok-jacobian.jacobian in
     let is = c.in_ok-jacobian.ensures in
     let size = c.in_ok-radii.ensures.size in
-    let radii = c.in_ok-rows.ensures R w c.in_ok-radii.ensures.radii (subst (λ n. HasWeights n ws w) (sym size) c.requires.values) in
+    let radii = c.in_ok-rows.ensures R w (c.in_ok-radii.ensures.radii 200 c.requires.boxes) (subst (λ n. HasWeights n ws w) (sym size) c.requires.values) in
     let plain : HasSlopes j c.in_ok-rows.rows.items ws J R w = record {
       jacobian = jacobian_made v x j is;
       radii = subst (λ n. AreWeighted n R w c.in_ok-rows.rows.items) (size ∙ sym is.size) radii;

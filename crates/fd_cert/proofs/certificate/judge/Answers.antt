@@ -17,8 +17,8 @@ read_weights : (n : ℕ) (ws xs : List ℤ) → xs ≡ ws
     → (pos (10 ^ 6) ≤ℤ part xs l) × (part xs l ≤ℤ pos (2 ^ 66))
 read_weights n ws xs e h = subst (λ ys. (l : ℕ) → l < n → (pos (10 ^ 6) ≤ℤ part ys l) × (part ys l ≤ℤ pos (2 ^ 66))) (sym e) h
 
-pub boxes-requires-clause-long : goal.boxes-requires-clause-long
-boxes-requires-clause-long c =
+pub half_widths-requires-clause-long : goal.half_widths-requires-clause-long
+half_widths-requires-clause-long c =
     ap length (c.deref.ensures.value ∙ c.in_ok-weights.ensures.weights)
     ∙ length-list_of c.args.net.now.size (λ place. pos (weight_at c.args.net.now c.args.x.now place))
 
@@ -26,7 +26,7 @@ pub bounds_at-requires-clause-boxes : goal.bounds_at-requires-clause-boxes
 bounds_at-requires-clause-boxes c =
     let v = c.args.net.now in
     c.deref-2.ensures.value
-    ∙ boxes_are v c.args.x.now c.deref.result.now c.in_ok-boxes.boxes.items
+    ∙ boxes_are 200 v c.args.x.now c.deref.result.now c.in_ok-boxes.boxes.items
     (weights_at v c.args.x.now c.deref.result.now (c.deref.ensures.value ∙ c.in_ok-weights.ensures.weights))
     c.in_ok-boxes.ensures
 
@@ -65,7 +65,7 @@ verdict-requires-clause-signs c =
 pub returns-clause-boxes : goal.returns-clause-boxes
 returns-clause-boxes c =
     let v = c.args.net.now in
-    boxes_are v c.args.x.now c.deref.result.now c.in_ok-boxes.boxes.items
+    boxes_are 200 v c.args.x.now c.deref.result.now c.in_ok-boxes.boxes.items
     (weights_at v c.args.x.now c.deref.result.now (c.deref.ensures.value ∙ c.in_ok-weights.ensures.weights))
     c.in_ok-boxes.ensures
 

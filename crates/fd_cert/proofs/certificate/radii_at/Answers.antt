@@ -5,7 +5,7 @@ use Rattle.fd_enclosure.specs.fd_pattern.Patterns.{PatternView, key}
 use Rattle.fd_enclosure.specs.fd_pattern.Terminals.{IsConnected}
 use Rattle.fd_enclosure.specs.Sound.{number_at}
 use Rattle.fd_cert.specs.Places.{AreRadiusCells, loads_radius}
-use Rattle.fd_cert.proofs.SlopeRadii.{boxes_at, have_widths, loads_connected, radii_made}
+use Rattle.fd_cert.proofs.SlopeRadii.{boxes_at, loads_connected, radii_made}
 use Rattle.fd_cert.proofs.certificate.radii_at.Goals as goal
 
 pub load_radii-requires-clause-size : goal.load_radii-requires-clause-size
@@ -20,16 +20,13 @@ load_radii-requires-clause-loads c =
 pub load_radii-requires-clause-few : goal.load_radii-requires-clause-few
 load_radii-requires-clause-few c = let n = c.size-size.ensures.valid in omega (arith, ap length c.loads.ensures, n.few_loads)
 
-pub load_radii-requires-clause-boxes : goal.load_radii-requires-clause-boxes
-load_radii-requires-clause-boxes c = have_widths c.args.net.now c.args.x.now c.args.boxes.now c.requires.boxes c.requires.point
-
 pub returns-clause-radii : goal.returns-clause-radii
-returns-clause-radii c =
+returns-clause-radii c parts is =
     let v = c.args.net.now in
     let x = c.args.x.now in
     let j = c.args.jacobian.now in
     let ps = ap (λ (p : PatternView). p.places) c.pattern-pattern.ensures in
-    radii_made v x j c.requires.jacobian c.args.boxes.now (boxes_at v x c.args.boxes.now c.requires.boxes)
+    radii_made v x j c.requires.jacobian parts c.args.boxes.now (boxes_at parts v x c.args.boxes.now is)
     (loads_connected v c.size-size.ensures.valid) c.deref.result.now c.in_ok-cells.cells.items
     (λ k l. ap (λ xs. number_at xs k) c.deref.ensures.value
     ∙ c.in_ok-loads.ensures.radii k (subst (λ (q : List (ℕ × ℕ)). k < length q) (sym ps) l)
