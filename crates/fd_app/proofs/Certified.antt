@@ -12,7 +12,7 @@ use Rattle.fd_checking.specs.fd_system.Residual.{whole_state}
 use Rattle.fd_checking.specs.fd_elements.declared.powers.LoadPower.{LoadPower}
 use Rattle.fd_checking.specs.dss_layout.Layout.{LayoutView, layout_of}
 use Rattle.fd_checking.specs.fd_enclosure.Encloses.{EnclosureLaw}
-use Rattle.fd_checking.specs.fd_enclosure.Sound.{Claim}
+use Rattle.fd_checking.specs.fd_enclosure.Sound.{Claim, parts_of}
 use Rattle.fd_checking.specs.fd_queue.Controls.{Positions}
 use Rattle.fd_checking.specs.fd_queue.Machine.{Machine, hour_begun}
 use Rattle.fd_checking.specs.fd_queue.declared.timing.Timing.{Timing}
@@ -63,8 +63,8 @@ StandsAt done = Unit {0}
 StandsAt (under_way s) = Stands s
 
 -- a state is in its own trust box
-own_box : (layout : LayoutView) (c : List ℤ) → IsInBox layout c (whole_state c)
-own_box layout c place low kind = let none = no_way (part c place) in omega (arith, none)
+own_box : (parts : ℕ) (layout : LayoutView) (c : List ℤ) → IsInBox parts layout c (whole_state c)
+own_box parts layout c place low kind = let none = no_way (part c place) in omega (arith, none)
   where
     no_way : (z : ℤ) → nat_abs (z -ℤ (pos 1 *ℤ z)) ≡ 0
     no_way z = omega (arith, ints)
@@ -154,7 +154,7 @@ module _ (law : EnclosureLaw) (sound_law : SoundAtLaw) (kept_law : KeptLaw) (mod
   own_solves : Solves s m (whole_state m.centre)
   own_solves = record {
     over = omega arith;
-    inside = own_box (layout_of c.elements) m.centre;
+    inside = own_box (parts_of m.support) (layout_of c.elements) m.centre;
     meets = meets_round c s.hour at m sound law;
   }
 

@@ -22,7 +22,7 @@ use Rattle.fd_checking.proofs.CallerLemmas.fd_equations.{get_or-list_of, length-
 use Rattle.fd_checking.specs.fd_enclosure.Bounds.{bound_at, bound_of, first_unbounded, first_wide, is_below_one}
 use Rattle.fd_checking.specs.fd_enclosure.Bounds.{radius_at, reach_at, reach_of, refusal, unless_unbounded, unless_wide}
 use Rattle.fd_checking.specs.fd_enclosure.Radii.{slope_radius}
-use Rattle.fd_checking.specs.fd_enclosure.Sound.{Claim, certificate_of, claim_of, first_loose, greatest_mismatch}
+use Rattle.fd_checking.specs.fd_enclosure.Sound.{Claim, certificate_of, claim_of, first_loose, greatest_mismatch, inverse_in}
 use Rattle.fd_checking.specs.fd_enclosure.Sound.{mismatch_at, mismatches_of, number_at, radii_of, radius_in}
 use Rattle.fd_checking.specs.fd_enclosure.Sound.{unless_loose, unless_uncertain}
 use Rattle.fd_checking.proofs.CallerLemmas.fd_enclosure.{all_narrow, claim_is, not_refused}
@@ -91,26 +91,26 @@ number_is (negsuc k) n h l = omega (arith, h, l)
 
 -- ---- a claim that is the certificate of a point
 
-module _ (v : NetworkView) (m : Claim) (at : IsSolutionPoint v m.centre m.inverse)
-    (certificate : certificate_of v m.centre m.inverse ≡ Ok m) where
+module _ (v : NetworkView) (m : Claim) (at : IsSolutionPoint v m.centre (inverse_in m.support))
+    (certificate : certificate_of v m.centre (inverse_in m.support) ≡ Ok m) where
   abbrev x : List ℤ
   x = m.centre
 
   abbrev C : ℕ → ℕ → ℤ
-  C = entry m.inverse
+  C = entry (inverse_in m.support)
 
   abbrev refused_by : (ℕ → ℕ) → Option (ℕ × Option ℤ)
   refused_by e = refusal v.size C (jacobian_entry v x) (slope_radius v x) (weight_at v x) e
 
-  what : claim_of v x m.inverse ≡ m
-  what = claim_is v x m.inverse m certificate
+  what : claim_of v x (inverse_in m.support) ≡ m
+  what = claim_is v x (inverse_in m.support) m certificate
 
-  none_loose : (o : Option ℕ) → unless_loose v x m.inverse o ≡ Ok m
-      → (o ≡ None) × (unless_uncertain v x m.inverse (refused_by (mismatch_at v x)) ≡ Ok m)
+  none_loose : (o : Option ℕ) → unless_loose v x (inverse_in m.support) o ≡ Ok m
+      → (o ≡ None) × (unless_uncertain v x (inverse_in m.support) (refused_by (mismatch_at v x)) ≡ Ok m)
   none_loose None e = (refl, e)
   none_loose (Some row) e = absurd (let no : ⊥ = cc in no)
 
-  none_uncertain : (o : Option (ℕ × Option ℤ)) → unless_uncertain v x m.inverse o ≡ Ok m → o ≡ None
+  none_uncertain : (o : Option (ℕ × Option ℤ)) → unless_uncertain v x (inverse_in m.support) o ≡ Ok m → o ≡ None
   none_uncertain None e = refl
   none_uncertain (Some r) e = absurd (let no : ⊥ = cc in no)
 
@@ -141,17 +141,17 @@ module _ (v : NetworkView) (m : Claim) (at : IsSolutionPoint v m.centre m.invers
   unfolding mismatches_of
   mismatch_is l p = ap (λ es. number_at es l) mismatches_are ∙ get_or-list_of v.size (mismatch_at v x) l 0 p
 
-  radii_are : m.radii ≡ radii_of v x m.inverse m.mismatches
-  radii_are = sym (ap (λ (k : Claim). k.radii) what) ∙ ap (radii_of v x m.inverse) (sym mismatches_are)
+  radii_are : m.radii ≡ radii_of v x (inverse_in m.support) m.mismatches
+  radii_are = sym (ap (λ (k : Claim). k.radii) what) ∙ ap (radii_of v x (inverse_in m.support)) (sym mismatches_are)
 
   radii_long : length m.radii ≡ v.size
   unfolding radii_of
-  radii_long = ap length radii_are ∙ length-list_of v.size (radius_in v x m.inverse m.mismatches)
+  radii_long = ap length radii_are ∙ length-list_of v.size (radius_in v x (inverse_in m.support) m.mismatches)
 
-  radius_is : (i : ℕ) → i < v.size → number_at m.radii i ≡ radius_in v x m.inverse m.mismatches i
+  radius_is : (i : ℕ) → i < v.size → number_at m.radii i ≡ radius_in v x (inverse_in m.support) m.mismatches i
   unfolding radii_of
   radius_is i p =
-      ap (λ rs. number_at rs i) radii_are ∙ get_or-list_of v.size (radius_in v x m.inverse m.mismatches) i 0 p
+      ap (λ rs. number_at rs i) radii_are ∙ get_or-list_of v.size (radius_in v x (inverse_in m.support) m.mismatches) i 0 p
 
   -- with its own mismatches it isn't refused
   own_certain : refused_by (number_at m.mismatches) ≡ None
@@ -169,8 +169,8 @@ module _ (v : NetworkView) (m : Claim) (at : IsSolutionPoint v m.centre m.invers
   centre_small i p =
       part_small (part x i) (All-get_or IsPart x i (pos 0) (omega (arith, p, at.point.long)) at.point.parts)
 
-  entries_small : (i : ℕ) → i < v.size → AllByRecursion (λ z. nat_abs z ≤ 2 ^ 56) (row_of m.inverse i)
-  entries_small i p = all_by (λ z. nat_abs z ≤ 2 ^ 56) (pos 0) (row_of m.inverse i)
+  entries_small : (i : ℕ) → i < v.size → AllByRecursion (λ z. nat_abs z ≤ 2 ^ 56) (row_of (inverse_in m.support) i)
+  entries_small i p = all_by (λ z. nat_abs z ≤ 2 ^ 56) (pos 0) (row_of (inverse_in m.support) i)
       (λ j q. at.square.inverse.small i j (omega (arith, p, at.square.inverse.long))
       (omega (arith, q, at.square.wide i p, at.square.inverse.long)))
 
@@ -186,7 +186,7 @@ module _ (v : NetworkView) (m : Claim) (at : IsSolutionPoint v m.centre m.invers
     round = pos round;
     size = pos v.size;
     parts = parts_for;
-    inverse = m.inverse;
+    inverse = inverse_in m.support;
     acts = acts;
   }
 
@@ -212,7 +212,7 @@ module _ (v : NetworkView) (m : Claim) (at : IsSolutionPoint v m.centre m.invers
     sized = record {
       parts = length-list_of v.size (part_in m);
       rows = at.square.inverse.long;
-      entries = all_by (λ r. length r ≡ v.size) [] m.inverse
+      entries = all_by (λ r. length r ≡ v.size) [] (inverse_in m.support)
           (λ i l. at.square.wide i (omega (arith, l, at.square.inverse.long)));
     }
 
@@ -225,11 +225,11 @@ module _ (v : NetworkView) (m : Claim) (at : IsSolutionPoint v m.centre m.invers
         ∙ own_certain)
 
     claimed_radius : (i : ℕ) → i < v.size
-        → radius_in v (map (λ (p : Part). p.centre) parts_for) m.inverse
+        → radius_in v (map (λ (p : Part). p.centre) parts_for) (inverse_in m.support)
         (sizes_of (map (λ (p : Part). p.mismatch) parts_for)) i ≡ number_at m.radii i
     claimed_radius i p =
-        ap (λ y. radius_in v y m.inverse (sizes_of (map (λ (p : Part). p.mismatch) parts_for)) i) centres_are
-        ∙ ap (λ es. radius_in v x m.inverse es i) sizes_back ∙ sym (radius_is i p)
+        ap (λ y. radius_in v y (inverse_in m.support) (sizes_of (map (λ (p : Part). p.mismatch) parts_for)) i) centres_are
+        ∙ ap (λ es. radius_in v x (inverse_in m.support) es i) sizes_back ∙ sym (radius_is i p)
 
     claimed_mismatch : (l : ℕ) → l < v.size
         → mismatch_at v (map (λ (p : Part). p.centre) parts_for) l ≡ number_at m.mismatches l
@@ -259,7 +259,7 @@ module _ (v : NetworkView) (m : Claim) (at : IsSolutionPoint v m.centre m.invers
           (subst (λ (k : ℕ). k ≤ 1000) (sym (mismatch_is i p)) (tight i p)));
       bound = λ i p. not_named i;
       radius = λ i p. subst (λ (q : Part). pos
-          (radius_in v (map (λ (p : Part). p.centre) parts_for) m.inverse
+          (radius_in v (map (λ (p : Part). p.centre) parts_for) (inverse_in m.support)
           (sizes_of (map (λ (p : Part). p.mismatch) parts_for)) i) ≤ℤ q.radius) (sym (part_is i p))
           (same_order _ (number_at m.radii i) (claimed_radius i p));
       acts = due_acts;
@@ -278,8 +278,8 @@ module _ (v : NetworkView) (m : Claim) (at : IsSolutionPoint v m.centre m.invers
               (omega (arith, mismatch_is i (omega (arith, l)), tight i (omega (arith, l))), tt),
             ),
           ));
-      inverse = all_by (AllByRecursion IsNumber) [] m.inverse
-          (λ i l. all_number (row_of m.inverse i) (entries_small i (omega (arith, l, at.square.inverse.long))));
+      inverse = all_by (AllByRecursion IsNumber) [] (inverse_in m.support)
+          (λ i l. all_number (row_of (inverse_in m.support) i) (entries_small i (omega (arith, l, at.square.inverse.long))));
       acts = each;
     }
       where

@@ -6,7 +6,7 @@ use Rattle.fd_checking.specs.dss_circuit.Circuit.{CircuitView}
 use Rattle.fd_checking.specs.dss_layout.Layout.{layout_of, size_of}
 use Rattle.fd_checking.specs.fd_settings.Hours.{hour_powers}
 use Rattle.fd_checking.specs.fd_pattern.Views.{NetworkView}
-use Rattle.fd_checking.specs.fd_enclosure.Sound.{Claim}
+use Rattle.fd_checking.specs.fd_enclosure.Sound.{Claim, inverse_in}
 use Rattle.fd_checking.specs.fd_inject.declared.limits.Limits.{Limits}
 use Rattle.fd_checking.specs.fd_queue.Controls.{Positions}
 use Rattle.fd_checking.specs.fd_queue.Machine.{Act, Machine}
@@ -56,8 +56,8 @@ module _ (x : Settle) (limits : Limits) (at : Positions) (m : Claim)
   abbrev v : NetworkView
   v = network_in x.circuit x.hour at
 
-  there : IsSolutionPoint v m.centre m.inverse
-  there = solution_point v limits m.centre m.inverse computed.point
+  there : IsSolutionPoint v m.centre (inverse_in m.support)
+  there = solution_point v limits m.centre (inverse_in m.support) computed.point
 
   module _ (k : ℕ) (acts : List Act) where
     abbrev by_network : Block

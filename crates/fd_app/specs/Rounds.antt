@@ -4,7 +4,7 @@ use Rattle.std.specs.Prelude.{◌≡◌, ◌<◌, ◌≤◌, ℕ, List, Ok, All}
 use Rattle.fd_checking.specs.dss_circuit.Circuit.{CircuitView}
 use Rattle.fd_checking.specs.fd_system.Residual.{whole_state}
 use Rattle.fd_checking.specs.fd_daily.Underway.{plant_at}
-use Rattle.fd_checking.specs.fd_enclosure.Sound.{Claim, certificate_of, number_at}
+use Rattle.fd_checking.specs.fd_enclosure.Sound.{Claim, certificate_of, inverse_in, number_at}
 use Rattle.fd_checking.specs.fd_inject.Procedure.{solution_of}
 use Rattle.fd_checking.specs.fd_queue.Controls.{Positions}
 use Rattle.fd_checking.specs.fd_settle.Contract.{limits_of}
@@ -31,8 +31,8 @@ pub record MeetsEquations (circuit : CircuitView) (hour : ℕ) (at : Positions) 
 -- are stated for it; no mismatch is larger than its residual and the rounding of its summands; the box is that of the
 -- state alone, and both parts of a voltage and of a current have one box and one radius.
 pub record IsExact (circuit : CircuitView) (hour : ℕ) (at : Positions) (m : Claim) : Type 0 where
-  pub state : solution_of (hour_network circuit hour at) (limits_of circuit.options) ≡ Ok (m.centre, m.inverse)
-  pub certificate : certificate_of (hour_network circuit hour at) m.centre m.inverse ≡ Ok m
+  pub state : solution_of (hour_network circuit hour at) (limits_of circuit.options) ≡ Ok (m.centre, inverse_in m.support)
+  pub certificate : certificate_of (hour_network circuit hour at) m.centre (inverse_in m.support) ≡ Ok m
   pub tied : AreTied circuit hour at m
   pub boxes : HasItsBox circuit hour at m
   pub one_ball : HaveOneBall circuit hour at m

@@ -31,13 +31,14 @@ read_radius : (v : NetworkView) (x : List ℤ) (c : List (List ℤ)) (e : List �
 unfolding radii_of
 read_radius v x c e i l = get_or-list_of v.size (radius_in v x c e) i 0 l
 
-of_inverse : (n : ℕ) (s : Support) → HasInverse n s → IsInverse n (inverse_in s)
+-- an inverse that a claim has
+pub of_inverse : (n : ℕ) (s : Support) → HasInverse n s → IsInverse n (inverse_in s)
 of_inverse n (by_inverse c) h = h
 of_inverse n (by_rows p) h = absurd h
 
-pub is_by_inverse : (n : ℕ) (s : Support) → HasInverse n s → IsByInverse s
-is_by_inverse n (by_inverse c) h = tt
-is_by_inverse n (by_rows p) h = absurd h
+pub of_sized : (n : ℕ) (s : Support) → HasInverse n s → IsByInverse s
+of_sized n (by_inverse c) h = tt
+of_sized n (by_rows p) h = absurd h
 
 pub widens : WideningLaw
 widens v m e here fit wider none =

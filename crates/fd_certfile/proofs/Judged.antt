@@ -111,22 +111,24 @@ module _ (v : NetworkView) (number hour round : ℕ) (sampled : Ball → Sampled
   claim_sound : IsSound v (claim_on v b)
   claim_sound = record {
     centre = point;
-    inverse = inverse;
     boxes = refl;
     mismatches_long = length-map (claim_of b).mismatch nat_abs ∙ length-map b.parts (λ (p : Part). p.mismatch) ∙ many;
     mismatches_least = λ l p. subst (λ (k : ℕ). mismatch_at v (claim_of b).centre l ≤ k) (sym (mismatch_here l))
         (above (mismatch_at v (claim_of b).centre l) (part_of b l).mismatch (h.mismatch l p).0);
     mismatches_most = λ l p. subst (λ (k : ℕ). k ≤ greatest_mismatch) (sym (mismatch_here l))
         (below (mismatch_at v (claim_of b).centre l) (part_of b l).mismatch (h.mismatch l p).0 (h.mismatch l p).1);
-    bounded = all_bounded v.size (entry b.inverse) (jacobian_entry v (claim_of b).centre)
-        (slope_radius v (claim_of b).centre) (weight_at v (claim_of b).centre)
-        (number_at (sizes_of (claim_of b).mismatch)) certain;
     radii_long = length-map b.parts (λ (p : Part). nat_abs p.radius) ∙ many;
-    radii_least = λ i p. subst
-        (λ (k : ℕ). radius_in v (claim_of b).centre b.inverse (sizes_of (claim_of b).mismatch) i ≤ k)
-        (sym (radius_here i))
-        (above (radius_in v (claim_of b).centre b.inverse (sizes_of (claim_of b).mismatch) i) (part_of b i).radius (h.radius i p));
     radii_most = λ i p. subst (λ (k : ℕ). k ≤ 2 ^ 40) (sym (radius_here i)) (h.range i p).radius;
+    shown = record {
+      inverse = inverse;
+      bounded = all_bounded v.size (entry b.inverse) (jacobian_entry v (claim_of b).centre)
+          (slope_radius v (claim_of b).centre) (weight_at v (claim_of b).centre)
+          (number_at (sizes_of (claim_of b).mismatch)) certain;
+      radii_least = λ i p. subst
+          (λ (k : ℕ). radius_in v (claim_of b).centre b.inverse (sizes_of (claim_of b).mismatch) i ≤ k)
+          (sym (radius_here i))
+          (above (radius_in v (claim_of b).centre b.inverse (sizes_of (claim_of b).mismatch) i) (part_of b i).radius (h.radius i p));
+    };
   }
 
 pub sound_law : SoundLaw

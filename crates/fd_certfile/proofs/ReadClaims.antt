@@ -13,7 +13,7 @@ use Rattle.fd_settle.specs.fd_pattern.Views.{NetworkView}
 use Rattle.fd_settle.specs.fd_equations.Weights.{weight_at}
 use Rattle.fd_settle.specs.fd_enclosure.Boxes.{boxes_of}
 use Rattle.fd_settle.specs.fd_enclosure.Radii.{slope_radius}
-use Rattle.fd_settle.specs.fd_enclosure.Sound.{mismatch_at, number_at, radius_in}
+use Rattle.fd_settle.specs.fd_enclosure.Sound.{by_inverse, mismatch_at, number_at, radius_in}
 use Rattle.fd_settle.specs.fd_cert.Rechecks.{broken_at, first_at_point, first_broken, first_unsound, has_size, has_wide_entry, is_narrow, is_out_of_range, is_untrue, place_named, refusal_of}
 use Rattle.fd_settle.specs.fd_cert.declared.rule.Broken.{Broken as Found}
 use Rattle.fd_settle.specs.fd_cert.declared.rule.Rule.{Rule}
@@ -267,5 +267,5 @@ module _ (v : NetworkView) (number hour round : ℕ) (sampled : Ball → Sampled
         radii = radii_same a.0 i;
         mismatches = sizes_same d.0 i;
         boxes = boxes_of v (claim_of b).centre;
-        inverse = b.inverse;
+        support = by_inverse b.inverse;
       }

@@ -11,13 +11,15 @@ use Rattle.fd_settle.proofs.CallerLemmas.fd_equations.{length-list_of, list_of-e
 use Rattle.fd_outside.specs.declared.bytes.Record.{Record}
 use Rattle.fd_outside.specs.Emitted.{pieces_of}
 use Rattle.fd_settle.specs.fd_mat.Rows.{row_of}
-use Rattle.fd_settle.specs.fd_cert.Claims.{claim_in}
+use Rattle.fd_settle.specs.fd_enclosure.Sound.{IsInverse}
+use Rattle.fd_settle.proofs.CallerLemmas.fd_cert.{of_inverse}
+use Rattle.fd_settle.specs.fd_cert.Claims.{claim_in, support_in}
 use Rattle.fd_settle.specs.declared.round.Act.{Act as Made}
 use Rattle.fd_settle.specs.declared.round.Round.{Round}
 use Rattle.fd_certfile.specs.Numbers.{IsNumber}
 use Rattle.fd_certfile.specs.Lines.{Line, line_bytes, solution}
 use Rattle.fd_certfile.specs.Blocks.{Sparse, Part, Block, part_line, row_line, act_line, numbered_lines, block_lines, IsSized, IsWritable}
-use Rattle.fd_certfile.specs.Rounds.{AreNumbers, IsRoundOf, act_of, block_of, part_in}
+use Rattle.fd_certfile.specs.Rounds.{AreNumbers, IsRoundOf, act_of, block_of, part_in, rows_in}
 
 -- ---- lines
 
@@ -48,21 +50,21 @@ module _ (size number hour round : ℕ) (made : Round) where
   pub lines_together : (first parts rows acts : List (List ℕ))
       → first ≡ line_bytes (solution (pos number) (pos hour) (pos round) (pos size)) ∷ []
       → parts ≡ first ++ list_of size (λ i. line_bytes (part_line i (part_in (claim_in made.certified.value) i)))
-      → length made.certified.value.inverse ≡ size
-      → rows ≡ parts ++ list_of (length made.certified.value.inverse) (λ i. line_bytes (row_line Sparse i (row_of made.certified.value.inverse i)))
+      → length (rows_in made) ≡ size
+      → rows ≡ parts ++ list_of (length (rows_in made)) (λ i. line_bytes (row_line Sparse i (row_of (rows_in made) i)))
       → acts ≡ rows ++ map line_bytes (map act_line (map act_of made.acts.items))
       → acts ≡ map line_bytes (block_lines Sparse (block_of size number hour round made))
   lines_together first parts rows acts f p l r a =
       let ps = numbered_lines part_line 0 (list_of size (part_in (claim_in made.certified.value))) in
-      let rs = numbered_lines (row_line Sparse) 0 made.certified.value.inverse in
+      let rs = numbered_lines (row_line Sparse) 0 (rows_in made) in
       let s = line_bytes (solution (pos number) (pos hour) (pos round) (pos size)) in
       let bs = map line_bytes (map act_line (map act_of made.acts.items)) in
       let p' : parts ≡ s ∷ map line_bytes ps = p
       ∙ ap (λ t. t ++ list_of size (λ i. line_bytes (part_line i (part_in (claim_in made.certified.value) i)))) f
       ∙ ap (λ t. s ∷ t) (sym (numbered_list part_line (part_in (claim_in made.certified.value)) size)) in
       let r' : rows ≡ (s ∷ map line_bytes ps) ++ map line_bytes rs = r
-      ∙ ap (λ t. t ++ list_of (length made.certified.value.inverse) (λ i. line_bytes (row_line Sparse i (row_of made.certified.value.inverse i)))) p'
-      ∙ ap (λ t. (s ∷ map line_bytes ps) ++ t) (sym (numbered_rows made.certified.value.inverse)) in
+      ∙ ap (λ t. t ++ list_of (length (rows_in made)) (λ i. line_bytes (row_line Sparse i (row_of (rows_in made) i)))) p'
+      ∙ ap (λ t. (s ∷ map line_bytes ps) ++ t) (sym (numbered_rows (rows_in made))) in
       a ∙ ap (λ t. t ++ bs) r'
       ∙ append_assoc (s ∷ map line_bytes ps) (map line_bytes rs) bs
       ∙ ap (λ t. (s ∷ map line_bytes ps) ++ t) (sym (map-append line_bytes rs (map act_line (map act_of made.acts.items))))
@@ -86,23 +88,26 @@ all_map P f [] h = tt
 all_map P f (x ∷ xs) h = (h.0, all_map P f xs h.1)
 
 module _ (size number hour round : ℕ) (made : Round) (is : IsRoundOf size made)
-    (wide : (i : ℕ) → i < length made.certified.value.inverse → length (row_of made.certified.value.inverse i) ≡ length made.certified.value.inverse)
+    (wide : (i : ℕ) → i < length (rows_in made) → length (row_of (rows_in made) i) ≡ length (rows_in made))
   where
+    inverse : IsInverse size (rows_in made)
+    inverse = of_inverse size (support_in made.certified.value.support) is.inverse
+
     pub sized : IsSized (block_of size number hour round made)
     sized = record {
       parts = length-list_of size (part_in (claim_in made.certified.value));
-      rows = is.inverse.long;
-      entries = all_by (λ r. length r ≡ size) [] made.certified.value.inverse (λ i l. wide i l ∙ is.inverse.long);
+      rows = inverse.long;
+      entries = all_by (λ r. length r ≡ size) [] (rows_in made) (λ i l. wide i l ∙ inverse.long);
     }
 
     number_is : (z : ℤ) (n : ℕ) → nat_abs z ≤ n → n < 2 ^ 127 → IsNumber z
     number_is (pos k) n h l = omega (arith, h, l)
     number_is (negsuc k) n h l = omega (arith, h, l)
 
-    row_numbers : (i : ℕ) → i < length made.certified.value.inverse
-        → AllByRecursion IsNumber (row_of made.certified.value.inverse i)
-    row_numbers i l = all_by IsNumber (pos 0) (row_of made.certified.value.inverse i)
-        (λ j m. number_is (entry made.certified.value.inverse i j) (2 ^ 56) (is.inverse.small i j l (omega (arith, m, wide i l))) (omega arith))
+    row_numbers : (i : ℕ) → i < length (rows_in made)
+        → AllByRecursion IsNumber (row_of (rows_in made) i)
+    row_numbers i l = all_by IsNumber (pos 0) (row_of (rows_in made) i)
+        (λ j m. number_is (entry (rows_in made) i j) (2 ^ 56) (inverse.small i j l (omega (arith, m, wide i l))) (omega arith))
 
     pub writable : number < 2 ^ 32 → hour < 2 ^ 32 → round < 2 ^ 32 → size < 2 ^ 32
         → All (λ (a : Made). AreNumbers (act_of a)) made.acts.items → IsWritable (block_of size number hour round made)
@@ -112,7 +117,7 @@ module _ (size number hour round : ℕ) (made : Round) (is : IsRoundOf size made
         number_is (part made.certified.value.ball.centre.items i) (2 ^ 40) (is.centre i (omega (arith, l))) (omega arith),
         (omega (arith, is.radii i (omega (arith, l))), (omega (arith, is.mismatches i (omega (arith, l))), tt)),
       ));
-      inverse = all_by (AllByRecursion IsNumber) [] made.certified.value.inverse row_numbers;
+      inverse = all_by (AllByRecursion IsNumber) [] (rows_in made) row_numbers;
       acts = all_map AreNumbers act_of made.acts.items (recursion_from_All (λ (a : Made). AreNumbers (act_of a)) made.acts.items acts);
     }
 

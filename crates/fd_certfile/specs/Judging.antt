@@ -47,7 +47,7 @@ claim_on v b = record {
   radii = map (λ p. nat_abs p.radius) b.parts;
   mismatches = sizes_of (claim_of b).mismatch;
   boxes = boxes_of v (claim_of b).centre;
-  inverse = b.inverse;
+  support = sound.by_inverse b.inverse;
 }
 
 -- where the rules hold of a block on a network, what it claims there is sound, whoever made it

@@ -3,8 +3,8 @@ use Rattle.std.specs.Prelude.{◌≡◌, ℕ, ◌<◌, ◌≤◌, ◌^◌, pos, 
 use Rattle.std.specs.List.{AllByRecursion, concat}
 use Rattle.fd_settle.specs.fd_exact.States.{part}
 use Rattle.fd_settle.specs.fd_equations.Rounded.{list_of}
-use Rattle.fd_settle.specs.fd_enclosure.Sound.{Claim, IsInverse, greatest_mismatch, number_at}
-use Rattle.fd_settle.specs.fd_cert.Claims.{claim_in}
+use Rattle.fd_settle.specs.fd_enclosure.Sound.{Claim, HasInverse, greatest_mismatch, inverse_in, number_at}
+use Rattle.fd_settle.specs.fd_cert.Claims.{claim_in, support_in}
 use Rattle.fd_settle.specs.declared.round.Act.{Act as Made}
 use Rattle.fd_settle.specs.declared.round.Round.{Round}
 use Rattle.fd_certfile.specs.Numbers.{IsNumber}
@@ -28,6 +28,10 @@ act_of a = record { time = pos a.time; control = pos a.control; steps = a.steps 
 abbrev pub AreNumbers : Act → Type 0
 AreNumbers a = AllByRecursion IsNumber (a.time ∷ a.control ∷ a.steps ∷ [])
 
+-- the rows of its inverse, where an inverse shows it
+abbrev pub rows_in : Round → List (List ℤ)
+rows_in made = inverse_in (support_in made.certified.value.support)
+
 -- the block of a round in a network of this size: of this settle in the run and this hour, the round that comes so many
 -- rounds after the settle's first
 abbrev pub block_of : ℕ → ℕ → ℕ → ℕ → Round → Block
@@ -37,7 +41,7 @@ block_of size number hour round made = record {
   round = pos round;
   size = pos size;
   parts = list_of size (part_in (claim_in made.certified.value));
-  inverse = made.certified.value.inverse;
+  inverse = rows_in made;
   acts = map act_of made.acts.items;
 }
 
@@ -57,12 +61,12 @@ abbrev pub AreReadAs : List (List ℕ) → Block → Type 0
 AreReadAs pieces b = (tail : List ℕ) → IsBehindActs (lines_of tail)
     → block_at Sparse (lines_of (concat pieces ++ tail)) ≡ Ok (b, lines_of tail)
 
--- what is claimed in a network of this size, with numbers that are within those of a certificate
+-- what is claimed by an inverse in a network of this size, with numbers that are within those of a certificate
 pub record IsClaimOf (size : ℕ) (m : Claim) : Type 0 where
   pub centre_long : length m.centre ≡ size
   pub radii_long : length m.radii ≡ size
   pub mismatches_long : length m.mismatches ≡ size
-  pub inverse : IsInverse size m.inverse
+  pub inverse : HasInverse size m.support
   pub centre : (i : ℕ) → i < size → nat_abs (part m.centre i) ≤ 2 ^ 40
   pub radii : (i : ℕ) → i < size → number_at m.radii i ≤ 2 ^ 40
   pub mismatches : (i : ℕ) → i < size → number_at m.mismatches i ≤ greatest_mismatch

@@ -129,7 +129,7 @@ pub fn write_block(
     let mut records = Vec::new(alloc);
     records.push(solution_record(alloc, number, hour, round, size)?)?;
     push_parts(alloc, &mut records, size, certified)?;
-    push_rows(alloc, &mut records, &certified.inverse)?;
+    push_rows(alloc, &mut records, certified.inverse())?;
     push_acts(alloc, &mut records, &made.acts)?;
     Ok(records)
 }

@@ -15,7 +15,8 @@ use Rattle.fd_equations.specs.Weights.{weight_at}
 use Rattle.fd_enclosure.specs.Bounds.{bound_at, bound_of, first_unbounded, first_wide, is_below_one, is_bounded, radius_at, reach_at, reach_of, refusal, refused_bound, unless_unbounded, unless_wide}
 use Rattle.fd_enclosure.specs.Encloses.{CertificateLaw}
 use Rattle.fd_enclosure.specs.Radii.{slope_radius}
-use Rattle.fd_enclosure.specs.Sound.{Claim, IsInverse, IsSound, certificate_of, claim_of, first_loose, greatest_mismatch, mismatch_at, mismatches_of, number_at, radii_of, radius_in, unless_loose, unless_uncertain}
+use Rattle.fd_enclosure.specs.Sound.{Claim, HasInverse, IsByInverse, IsInverse, IsShown, IsSound, Support, by_inverse, by_rows, certificate_of, claim_of}
+use Rattle.fd_enclosure.specs.Sound.{first_loose, greatest_mismatch, inverse_in, mismatch_at, mismatches_of, number_at, radii_of, radius_in, unless_loose, unless_uncertain}
 
 -- ---- lists
 
@@ -142,3 +143,16 @@ certificate_sound v x c m net point inverse e =
     let a = not_loose v x c (first_loose v x) m e in
     let b = not_uncertain v x c (refused v x c) m a.1 in
     subst (IsSound v) b.1 (own_sound v x c point inverse a.0 b.0)
+
+-- ---- its inverse
+
+shown_inverse : (v : NetworkView) (m : Claim) (s : Support) → IsByInverse s → IsShown v m s → HasInverse v.size s
+shown_inverse v m (by_inverse c) h shown = shown.inverse
+shown_inverse v m (by_rows p) h shown = absurd h
+
+-- the certificate of a point is shown by the inverse
+pub is_by_inverse : (v : NetworkView) (m : Claim) → certificate_of v m.centre (inverse_in m.support) ≡ Ok m → IsByInverse m.support
+is_by_inverse v m e = subst (λ (k : Claim). IsByInverse k.support) (claim_is v m.centre (inverse_in m.support) m e) tt
+
+pub sound_inverse : (v : NetworkView) (m : Claim) → IsByInverse m.support → IsSound v m → HasInverse v.size m.support
+sound_inverse v m h sound = shown_inverse v m m.support h sound.shown

@@ -2,6 +2,7 @@
 use Rattle.std.specs.Prelude.{ℕ, pos, ◌+◌, List, [], ◌∷◌, ◌++◌, map}
 use Rattle.fd_report.specs.dss_layout.Layout.{layout_of, size_of}
 use Rattle.fd_report.specs.fd_equations.Rounded.{list_of}
+use Rattle.fd_report.specs.fd_enclosure.Sound.{inverse_in}
 use Rattle.fd_report.specs.fd_queue.Machine.{Act}
 use Rattle.fd_certfile.specs.Blocks.{Block, block_lines}
 use Rattle.fd_certfile.specs.declared.version.Version.TheVariants.{Sparse}
@@ -23,7 +24,7 @@ block_in s k r = record {
   round = pos k;
   size = pos (size_of (layout_of s.circuit.elements));
   parts = list_of (size_of (layout_of s.circuit.elements)) (part_in (claim_in r));
-  inverse = r.inverse;
+  inverse = inverse_in r.support;
   acts = map act_in r.acts;
 }
 

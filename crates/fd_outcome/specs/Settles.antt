@@ -1,21 +1,20 @@
 -- A settle as data: where it started, its rounds, how it ended, and what it leaves.
 use Rattle.std.specs.Prelude.{ℕ, ℤ, List}
 use Rattle.fd_report.specs.dss_circuit.Circuit.{CircuitView}
-use Rattle.fd_report.specs.fd_enclosure.Sound.{Claim}
+use Rattle.fd_report.specs.fd_enclosure.Sound.{Claim, Support}
 use Rattle.fd_report.specs.fd_queue.Controls.{Positions}
 use Rattle.fd_report.specs.fd_queue.Machine.{Act, Machine}
 use Rattle.fd_report.specs.declared.faults.Fault.{Fault}
 
 -- A state that the procedure reaches, by place, in whole microvolts and microamperes, with its certificate: the radius
--- within which others lie of it, the half-width of the box of which these speak, the mismatch of each row, and the
--- inverse with which it was reached, in units of 2^-40. And the acts of controls behind it, by the controls' numbers in
--- the script's order.
+-- within which others lie of it, the half-width of the box of which these speak, the mismatch of each row, and what
+-- shows these. And the acts of controls behind it, by the controls' numbers in the script's order.
 pub record Round : Type 0 where
   pub centre : List ℤ
   pub radii : List ℕ
   pub boxes : List ℕ
   pub mismatches : List ℕ
-  pub inverse : List (List ℤ)
+  pub support : Support
   pub acts : List Act
 
 -- a certified state, and the acts behind it
@@ -25,14 +24,14 @@ round_of m acts = record {
   radii = m.radii;
   boxes = m.boxes;
   mismatches = m.mismatches;
-  inverse = m.inverse;
+  support = m.support;
   acts = acts;
 }
 
 -- the certificate of a round
 abbrev pub claim_in : Round → Claim
 claim_in r =
-    record { centre = r.centre; radii = r.radii; mismatches = r.mismatches; boxes = r.boxes; inverse = r.inverse }
+    record { centre = r.centre; radii = r.radii; mismatches = r.mismatches; boxes = r.boxes; support = r.support }
 
 pub data SettleEnd : Type 0 where
   settled : SettleEnd

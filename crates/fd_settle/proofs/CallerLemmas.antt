@@ -17,6 +17,7 @@ pub use Rattle.fd_inject.proofs.CallerLemmas.fd_equations as fd_equations
 pub use Rattle.fd_inject.proofs.CallerLemmas.fd_inverse as fd_inverse
 pub use Rattle.fd_inject.proofs.CallerLemmas as fd_inject
 pub use Rattle.fd_cert.proofs.CallerLemmas.fd_enclosure as fd_enclosure
+pub use Rattle.fd_cert.proofs.CallerLemmas as fd_cert
 pub use Rattle.fd_sample.proofs.CallerLemmas as fd_sample
 
 -- a settle whose states are computed has one computation

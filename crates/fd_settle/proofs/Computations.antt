@@ -4,7 +4,7 @@ use Rattle.fd_sample.specs.dss_model.declared.command.Blame.{Blame}
 use Rattle.fd_inject.specs.fd_pattern.Views.{NetworkView}
 use Rattle.fd_cert.specs.Claims.{claim_in}
 use Rattle.fd_cert.specs.declared.fault.CertFault.TheVariants as cert
-use Rattle.fd_cert.specs.fd_enclosure.Sound.{Claim, Refusal, certificate_of, loose, uncertain}
+use Rattle.fd_cert.specs.fd_enclosure.Sound.{Claim, Refusal, certificate_of, inverse_in, loose, uncertain}
 use Rattle.fd_inject.specs.Faults.{UnlessMemory}
 use Rattle.fd_inject.specs.Procedure.{solution_of}
 use Rattle.fd_inject.specs.declared.fault.SolveFault.{SolveFault}
@@ -41,16 +41,16 @@ certified_at v x y r same h = subst (λ (q : List ℤ × List (List ℤ)). certi
 
 claim_once : (limits : Limits) (v : NetworkView) (a b : Claim) → IsComputed limits v a → IsComputed limits v b → a ≡ b
 claim_once limits v a b h k =
-    let e = certified_at v (a.centre, a.inverse) (b.centre, b.inverse) (Ok a)
-    (same_point (solution_of v limits) (a.centre, a.inverse) (b.centre, b.inverse) h.point k.point) h.certificate in
+    let e = certified_at v (a.centre, inverse_in a.support) (b.centre, inverse_in b.support) (Ok a)
+    (same_point (solution_of v limits) (a.centre, inverse_in a.support) (b.centre, inverse_in b.support) h.point k.point) h.certificate in
     let f = k.certificate in
     cc
 
 no_certificate : (limits : Limits) (p : Plant) (m : Machine) (r : Refusal) (c : Claim) → HasNoCertificate limits p m r
     → IsComputed limits (p.network m.at) c → ⊥
 no_certificate limits p m r c h k =
-    let e = certified_at (p.network m.at) (h.centre, h.inverse) (c.centre, c.inverse) (Err r)
-    (same_point (solution_of (p.network m.at) limits) (h.centre, h.inverse) (c.centre, c.inverse) h.point k.point)
+    let e = certified_at (p.network m.at) (h.centre, h.inverse) (c.centre, inverse_in c.support) (Err r)
+    (same_point (solution_of (p.network m.at) limits) (h.centre, h.inverse) (c.centre, inverse_in c.support) h.point k.point)
     h.refusal in
     let f = k.certificate in
     cc

@@ -5,7 +5,7 @@ use Rattle.fd_inject.specs.Faults.{IsInside, UnlessMemory}
 use Rattle.fd_inject.specs.Procedure.{solution_of}
 use Rattle.fd_inject.specs.declared.limits.Limits.{Limits}
 use Rattle.fd_inject.specs.fd_pattern.Conditions.{IsPoint}
-use Rattle.fd_cert.specs.fd_enclosure.Sound.{Claim, IsInverse, certificate_of}
+use Rattle.fd_cert.specs.fd_enclosure.Sound.{Claim, IsInverse, certificate_of, inverse_in}
 use Rattle.fd_cert.specs.Claims.{Refuses}
 use Rattle.fd_cert.specs.Claims as claims
 use Rattle.fd_cert.specs.declared.fault.CertFault.{CertFault}
@@ -14,8 +14,8 @@ use Rattle.fd_settle.specs.declared.compute.ComputeFault.TheVariants as fault
 
 -- the procedure reaches a point, which is certified so
 pub record IsComputed (limits : Limits) (v : NetworkView) (m : Claim) : Type 0 where
-  pub point : solution_of v limits ≡ Ok (m.centre, m.inverse)
-  pub certificate : certificate_of v m.centre m.inverse ≡ Ok m
+  pub point : solution_of v limits ≡ Ok (m.centre, inverse_in m.support)
+  pub certificate : certificate_of v m.centre (inverse_in m.support) ≡ Ok m
 
 -- the procedure reaches a point, which has no certificate, for this reason
 pub record IsUncertified (limits : Limits) (v : NetworkView) (f : CertFault) : Type 0 where

@@ -11,6 +11,7 @@ pub use Rattle.fd_solving.proofs.Tests.{one_solution, one_step, test_once, tests
 pub use Rattle.fd_solving.proofs.Weaker.{if_some_weaker, none_goes}
 pub use Rattle.fd_solving.proofs.Weights.{Reaches, Takes, reached_takes, verb_takes}
 pub use Rattle.dss_commands.proofs.CallerLemmas as dss_commands
+pub use Rattle.fd_daily.proofs.CallerLemmas.fd_enclosure as fd_enclosure
 pub use Rattle.fd_daily.proofs.CallerLemmas.fd_equations as fd_equations
 pub use Rattle.fd_daily.proofs.CallerLemmas.fd_settle.{nothing_due}
 pub use Rattle.fd_pages.proofs.CallerLemmas.{all_last, first_round, of_first_round}

@@ -2,16 +2,18 @@
 use Rattle.std.proofs.Common.{◌≡◌, ◌∙◌, ◌≤◌, ◌<◌, ◌+◌, ◌^◌, ℕ, List, [], ◌∷◌, map, length, Option, Some, None, Result}
 use Rattle.std.proofs.Common.{Ok, Err, ap, refl, sym, subst, arith}
 use Rattle.std.specs.Prelude.{All}
+use Rattle.std.specs.List.{AllByRecursion}
 use Rattle.std.proofs.lemmas.List.{length-map}
 use Rattle.std.proofs.lemmas.List.Elements.{All-cons, All-nil}
 use Rattle.fd_pages.specs.dss_layout.Layout.{LayoutView, layout_of, size_of}
 use Rattle.fd_daily.specs.dss_ready.Ready.{HasPassed}
 use Rattle.dss_commands.specs.dss_circuit.Circuit.{CircuitView}
 use Rattle.fd_daily.specs.fd_pattern.Views.{NetworkView}
-use Rattle.fd_daily.specs.fd_cert.Claims.{claim_in}
+use Rattle.fd_daily.specs.fd_cert.Claims.{claim_in, support_in}
 use Rattle.fd_pages.specs.fd_certfile.Rounds.{IsRoundOf}
 use Rattle.fd_daily.specs.fd_cert.declared.fault.CertFault.TheVariants as cert
-use Rattle.fd_daily.specs.fd_enclosure.Sound.{Claim}
+use Rattle.fd_daily.specs.fd_enclosure.Sound.{Claim, IsByInverse}
+use Rattle.fd_daily.proofs.CallerLemmas.fd_enclosure.{is_by_inverse}
 use Rattle.fd_daily.specs.fd_inject.declared.fault.SolveFault.TheVariants as solving
 use Rattle.fd_daily.specs.fd_inject.declared.limits.Limits.{Limits}
 use Rattle.fd_daily.specs.fd_settings.Hours.{hour_powers}
@@ -19,11 +21,11 @@ use Rattle.fd_daily.specs.fd_elements.declared.powers.LoadPower.{LoadPower}
 use Rattle.fd_daily.specs.fd_queue.Machine.{Act, Machine}
 use Rattle.fd_pages.specs.fd_report.Solutions.{IsOfSize}
 use Rattle.fd_daily.specs.fd_settle.Compute.{ComputeGives, IsPlaced}
-use Rattle.fd_daily.specs.fd_settle.Computed.{Ending, EndsBySolver, EndsSo, IsComputedFrom, computed_in, ended}
+use Rattle.fd_daily.specs.fd_settle.Computed.{Ending, EndsBySolver, EndsSo, Follows, IsComputedFrom, computed_in, ended}
 use Rattle.fd_daily.specs.fd_settle.Contract.{CallsAs, EndsAs, limits_of}
 use Rattle.fd_daily.specs.fd_settle.Plant.{Plant, network_at, plant_of}
 use Rattle.fd_daily.specs.fd_settle.Rounds.{AtEach, after_round, claims_in, seen, settled}
-use Rattle.fd_daily.specs.fd_settle.Settle.{End, Settled}
+use Rattle.fd_daily.specs.fd_settle.Settle.{End, Ends, Moves, Outcome, Settled, outcome_of}
 use Rattle.fd_daily.specs.fd_settle.Start.{ArePositions, IsSoundAt}
 use Rattle.fd_daily.specs.fd_settle.declared.compute.ComputeFault.{ComputeFault}
 use Rattle.fd_daily.specs.fd_settle.declared.compute.ComputeFault.TheVariants as compute
@@ -54,6 +56,34 @@ same_rounds : (rs : List Made) → rounds_of (computed_in rs) ≡ rounds_in rs
 same_rounds [] = refl
 same_rounds (r ∷ rs) = ap (λ (xs : List Round). round_in r ∷ xs) (same_rounds rs)
 
+-- ---- a state that is computed is shown by an inverse
+
+abbrev HasOwnInverse : Made → Type 0
+HasOwnInverse r = IsByInverse (support_in r.certified.value.support)
+
+module _ (limits : Limits) (p : Plant) where
+  abbrev Computed : Machine → List Made → Ending → Machine → Type 0
+  Computed m rs ending n = IsComputedFrom limits p m (computed_in rs) ending n
+
+  none_left : (rs : List Made) → computed_in rs ≡ [] → AllByRecursion HasOwnInverse rs
+  none_left [] e = tt
+  none_left (r ∷ rs) e = absurd (cc e)
+
+  inverses_behind : (o : Outcome) (acts : List Act) (rs : List Made) (ending : Ending) (n : Machine)
+      → ((k : Machine) → Computed k rs ending n → AllByRecursion HasOwnInverse rs)
+      → Follows o acts (computed_in rs) ending n (λ k. Computed k rs ending n) → AllByRecursion HasOwnInverse rs
+  inverses_behind (Ends end k) acts rs ending n next f = none_left rs f.1.0
+  inverses_behind (Moves made k) acts rs ending n next f = next k f.1
+
+  all_inverses : (m : Machine) (rs : List Made) (ending : Ending) (n : Machine) → Computed m rs ending n
+      → AllByRecursion HasOwnInverse rs
+  all_inverses m [] ending n h = tt
+  all_inverses m (r ∷ rs) ending n h = (
+    is_by_inverse (p.network m.at) (claim_in r.certified.value) h.1.0.certificate,
+    inverses_behind (outcome_of p.setup m (p.look m.at (claim_in r.certified.value))) (map seen r.acts.items) rs ending n
+        (λ k. all_inverses k rs ending n) h.1.1,
+  )
+
 -- ---- each round
 
 module _ (c : CircuitView) (hour : ℕ) where
@@ -66,14 +96,14 @@ module _ (c : CircuitView) (hour : ℕ) where
       (is_of_size c hour m.at (claim_in r.certified.value) sound.0 (map seen r.acts.items))
       (all_of_size (after_round (plant_at c hour) m (claim_in r.certified.value)) rs sound.1)
 
-  all_claims : (m : Machine) (rs : List Made)
+  all_claims : (m : Machine) (rs : List Made) → AllByRecursion HasOwnInverse rs
       → AtEach (IsSoundAt c (hour_powers c.elements hour)) (plant_at c hour) m (claims_in rs)
       → All (IsRoundOf (size_of (layout_of c.elements))) rs
-  all_claims m [] sound = All-nil (IsRoundOf (size_of (layout_of c.elements)))
-  all_claims m (r ∷ rs) sound =
+  all_claims m [] inverses sound = All-nil (IsRoundOf (size_of (layout_of c.elements)))
+  all_claims m (r ∷ rs) inverses sound =
       All-cons (IsRoundOf (size_of (layout_of c.elements))) r rs
-      (sound_claim c hour m.at (claim_in r.certified.value) sound.0)
-      (all_claims (after_round (plant_at c hour) m (claim_in r.certified.value)) rs sound.1)
+      (sound_claim c hour m.at (claim_in r.certified.value) inverses.0 sound.0)
+      (all_claims (after_round (plant_at c hour) m (claim_in r.certified.value)) rs inverses.1 sound.1)
 
 -- ---- what a fault tells
 
@@ -168,7 +198,8 @@ module _ (c : CircuitView) (hour : ℕ) (l : Kept) (rs : List Made) (k : Kept) (
   printable result ending made computed = record {
     ready = ready;
     numbers = all_of_size c hour first rs made.sound;
-    claims = all_claims c hour first rs made.sound;
+    claims = all_claims c hour first rs
+        (all_inverses (limits_of c.options) (plant_at c hour) first rs ending last computed) made.sound;
     positions = made.positions;
     few = few ending computed;
   }

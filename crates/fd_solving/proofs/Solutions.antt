@@ -19,9 +19,9 @@ use Rattle.fd_daily.specs.fd_pattern.declared.layout.PlaceKind.{PlaceKind}
 use Rattle.fd_daily.specs.fd_pattern.declared.layout.PlaceKind.TheVariants.{Node, Branch, Magnitude}
 use Rattle.fd_pages.specs.dss_layout.Layout.{complex_count, layout_of, size_of}
 use Rattle.dss_commands.specs.dss_circuit.Circuit.{CircuitView}
-use Rattle.fd_daily.specs.fd_enclosure.Boxes.{IsInTrustBox, half_width, half_width_by}
+use Rattle.fd_daily.specs.fd_enclosure.Boxes.{IsInPart, half_width, part_width, part_width_by}
 use Rattle.fd_daily.specs.fd_enclosure.Encloses.{EnclosureLaw, IsAlternative, IsEnclosure, IsWithinRadii, LinearLaw}
-use Rattle.fd_daily.specs.fd_enclosure.Sound.{Claim, claim_of, mismatch_at, mismatches_of, number_at, radii_of}
+use Rattle.fd_daily.specs.fd_enclosure.Sound.{Claim, claim_of, inverse_in, mismatch_at, mismatches_of, number_at, parts_of, radii_of}
 use Rattle.fd_daily.specs.fd_enclosure.Sound.{radius_in}
 use Rattle.fd_daily.specs.fd_enclosure.Ties.{BallLaw, IsTied, TieLaw}
 use Rattle.fd_daily.proofs.CallerLemmas.fd_enclosure.{claim_is}
@@ -73,19 +73,21 @@ network_complexes c powers at = refl
 
 -- ---- the box by the layout is that of the network
 
-box_by_kind : (kind : PlaceKind) (draw : ℕ) (centre : List ℤ) (place : ℕ)
-    → half_width_by kind (weight_by kind draw centre place) ≡ box_by kind centre place
-box_by_kind Node draw centre place = refl
-box_by_kind Branch draw centre place = refl
-box_by_kind Magnitude draw centre place = refl
+box_by_kind : (parts : ℕ) (kind : PlaceKind) (draw : ℕ) (centre : List ℤ) (place : ℕ)
+    → part_width_by parts kind (weight_by kind draw centre place) ≡ box_by parts kind centre place
+box_by_kind parts Node draw centre place = refl
+box_by_kind parts Branch draw centre place = refl
+box_by_kind parts Magnitude draw centre place = refl
 
-module _ (c : CircuitView) (powers : List LoadPower) (at : Positions) (centre : List ℤ) where
+module _ (parts : ℕ) (c : CircuitView) (powers : List LoadPower) (at : Positions) (centre : List ℤ) where
   pub same_box : (place : ℕ)
-      → half_width (network_at c powers at) centre place ≡ box_at (layout_of c.elements) centre place
+      → part_width parts (network_at c powers at) centre place ≡ box_at parts (layout_of c.elements) centre place
   unfolding network_at
-  same_box place = box_by_kind (kind_at (layout_of c.elements) place) (network_at c powers at).stamp.draw centre place
+  same_box place =
+      box_by_kind parts (kind_at (layout_of c.elements) place) (network_at c powers at).stamp.draw centre place
 
-  in_trust_box : (x : State) → IsInBox (layout_of c.elements) centre x → IsInTrustBox (network_at c powers at) centre x
+  in_trust_box : (x : State) → IsInBox parts (layout_of c.elements) centre x
+      → IsInPart parts (network_at c powers at) centre x
   unfolding network_at
   in_trust_box x h place within free =
       subst (λ w. nat_abs (away centre x place) ≤ x.over * w) (sym (same_box place)) (h place within free)
@@ -116,10 +118,10 @@ module _ (c : CircuitView) (hour : ℕ) (at : Positions) (m : Claim)
 
   -- a state of the round's ball that meets its mismatches is one that the certificate speaks of
   alternative : (y : State) → IsOtherState c hour at m y
-      → IsAlternative (hour_network c hour at) m.centre m.mismatches y
+      → IsAlternative (hour_network c hour at) (parts_of m.support) m.centre m.mismatches y
   alternative y a = record {
     over = a.over;
-    inside = in_trust_box c (hour_powers c.elements hour) at m.centre y a.inside;
+    inside = in_trust_box (parts_of m.support) c (hour_powers c.elements hour) at m.centre y a.inside;
     meets = down (number_at m.mismatches) y a.over a.meets;
   }
 
@@ -169,7 +171,8 @@ module _ (c : CircuitView) (hour : ℕ) (at : Positions) (m : Claim)
         centre = here.sound.centre.long;
         radii = here.sound.radii_long;
         boxes = ap length here.sound.boxes
-            ∙ length-map-range_with_len (half_width (hour_network c hour at) m.centre) 0 (hour_network c hour at).size;
+            ∙ length-map-range_with_len (part_width (parts_of m.support) (hour_network c hour at) m.centre) 0
+            (hour_network c hour at).size;
         mismatches = here.sound.mismatches_long;
         parts_small = λ i h.
             part_size (part m.centre i) (All-get_or IsPart m.centre i (pos 0)
@@ -178,8 +181,8 @@ module _ (c : CircuitView) (hour : ℕ) (at : Positions) (m : Claim)
       })
 
   module _ (computed : IsComputed (limits_of c.options) (hour_network c hour at) m) where
-    what : m ≡ claim_of (hour_network c hour at) m.centre m.inverse
-    what = sym (claim_is (hour_network c hour at) m.centre m.inverse m computed.certificate)
+    what : m ≡ claim_of (hour_network c hour at) m.centre (inverse_in m.support)
+    what = sym (claim_is (hour_network c hour at) m.centre (inverse_in m.support) m computed.certificate)
 
     own_mismatch : (l : ℕ) → l < (hour_network c hour at).size
         → number_at m.mismatches l ≡ mismatch_at (hour_network c hour at) m.centre l
@@ -190,12 +193,12 @@ module _ (c : CircuitView) (hour : ℕ) (at : Positions) (m : Claim)
         l 0 h (omega arith)
 
     own_radius : (i : ℕ) → i < (hour_network c hour at).size
-        → number_at m.radii i ≡ radius_in (hour_network c hour at) m.centre m.inverse
+        → number_at m.radii i ≡ radius_in (hour_network c hour at) m.centre (inverse_in m.support)
         (mismatches_of (hour_network c hour at) m.centre) i
     unfolding radii_of
     own_radius i h =
         ap (λ k. number_at k.radii i) what
-        ∙ get_or-map-range_with_len (radius_in (hour_network c hour at) m.centre m.inverse
+        ∙ get_or-map-range_with_len (radius_in (hour_network c hour at) m.centre (inverse_in m.support)
         (mismatches_of (hour_network c hour at) m.centre))
         0 (hour_network c hour at).size i i 0 h (omega arith)
 
@@ -215,16 +218,20 @@ module _ (c : CircuitView) (hour : ℕ) (at : Positions) (m : Claim)
         (sym (own_mismatch l within)) tied
 
     own_box : (i : ℕ) → i < (hour_network c hour at).size
-        → number_at m.boxes i ≡ half_width (hour_network c hour at) m.centre i
+        → number_at m.boxes i ≡ part_width (parts_of m.support) (hour_network c hour at) m.centre i
     own_box i h =
         ap (λ boxes. number_at boxes i) here.sound.boxes
-        ∙ get_or-map-range_with_len (half_width (hour_network c hour at) m.centre) 0
+        ∙ get_or-map-range_with_len (part_width (parts_of m.support) (hour_network c hour at) m.centre) 0
         (hour_network c hour at).size i i 0 h (omega arith)
+
+    own_half : (i : ℕ) → i < (hour_network c hour at).size
+        → number_at m.boxes i ≡ half_width (hour_network c hour at) m.centre i
+    own_half i h = own_box i h ∙ ap (λ k. part_width (parts_of k.support) (hour_network c hour at) m.centre i) what
 
     its_box : HasItsBox c hour at m
     its_box place h =
         own_box place (omega (arith, h, network_size c (hour_powers c.elements hour) at))
-        ∙ same_box c (hour_powers c.elements hour) at m.centre place
+        ∙ same_box (parts_of m.support) c (hour_powers c.elements hour) at m.centre place
 
     one_ball : BallLaw → HaveOneBall c hour at m
     one_ball ball k h =
@@ -232,10 +239,10 @@ module _ (c : CircuitView) (hour : ℕ) (at : Positions) (m : Claim)
         omega (arith, h, network_complexes c (hour_powers c.elements hour) at) in
         let first : 2 * k < (hour_network c hour at).size = omega (arith, inside, here.network.unknowns) in
         let second : 2 * k + 1 < (hour_network c hour at).size = omega (arith, inside, here.network.unknowns) in
-        let same = ball (hour_network c hour at) m.centre m.inverse (mismatches_of (hour_network c hour at) m.centre) k
+        let same = ball (hour_network c hour at) m.centre (inverse_in m.support) (mismatches_of (hour_network c hour at) m.centre) k
         here.network.nodes inside in (
           own_radius (2 * k) first ∙ same.radius ∙ sym (own_radius (2 * k + 1) second),
-          own_box (2 * k) first ∙ same.box ∙ sym (own_box (2 * k + 1) second),
+          own_half (2 * k) first ∙ same.box ∙ sym (own_half (2 * k + 1) second),
         )
 
     pub is_solution : EnclosureLaw → LinearLaw → TieLaw → BallLaw → IsSolution c hour at m

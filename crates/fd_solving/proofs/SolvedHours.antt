@@ -16,7 +16,7 @@ use Rattle.fd_daily.specs.fd_settings.Hours.{HoursLaw, hour_powers}
 use Rattle.fd_daily.specs.fd_settings.Modest.{ModestLaw}
 use Rattle.fd_daily.specs.fd_settings.Positions.{NextLaw}
 use Rattle.fd_daily.specs.fd_enclosure.Encloses.{CertificateLaw, EnclosureLaw, LinearLaw}
-use Rattle.fd_daily.specs.fd_enclosure.Sound.{Claim}
+use Rattle.fd_daily.specs.fd_enclosure.Sound.{Claim, inverse_in}
 use Rattle.fd_daily.specs.fd_enclosure.Ties.{BallLaw, TieLaw}
 use Rattle.fd_daily.specs.fd_queue.Controls.{Positions}
 use Rattle.fd_daily.specs.fd_queue.Machine.{Act, Machine}
@@ -100,12 +100,12 @@ module _ (laws : Laws) (c : CircuitView) (ready : HasPassed c) (circuit : IsWith
       let modest = laws.modest c.elements hour circuit.elements_in_range in
       let of = laws.network c (settings_at powers at) ready circuit positions.counts positions.taps modest none in
       let v = hour_network c hour at in
-      let there = solution_point v (limits_of c.options) m.centre m.inverse computed.point in
+      let there = solution_point v (limits_of c.options) m.centre (inverse_in m.support) computed.point in
       record {
         positions = positions;
         agrees = of.agrees;
         network = of.network;
-        sound = laws.certificate v m.centre m.inverse m of.network there.point there.square.inverse
+        sound = laws.certificate v m.centre (inverse_in m.support) m of.network there.point there.square.inverse
             computed.certificate;
       }
 

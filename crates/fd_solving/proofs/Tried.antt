@@ -15,8 +15,10 @@ use Rattle.fd_daily.specs.fd_cert.declared.ball.Certified.{Certified}
 use Rattle.fd_daily.specs.fd_cert.declared.fault.CertFault.TheVariants as cert
 use Rattle.fd_pages.specs.fd_certfile.Rounds.{IsClaimOf}
 use Rattle.fd_daily.specs.fd_settings.Hours.{hour_powers}
-use Rattle.fd_daily.specs.fd_enclosure.Sound.{Claim, IsInverse, certificate_of, first_loose, greatest_mismatch}
+use Rattle.fd_daily.specs.fd_enclosure.Sound.{Claim, IsByInverse, IsInverse}
+use Rattle.fd_daily.specs.fd_enclosure.Sound.{certificate_of, first_loose, greatest_mismatch}
 use Rattle.fd_daily.specs.fd_enclosure.Sound.{mismatch_at, mismatches_of, number_at, uncertain, unless_loose}
+use Rattle.fd_daily.proofs.CallerLemmas.fd_enclosure.{sound_inverse}
 use Rattle.fd_daily.specs.fd_pattern.Conditions.{IsPart, IsPoint}
 use Rattle.fd_daily.specs.fd_pattern.Views.{NetworkView}
 use Rattle.fd_daily.specs.fd_inject.declared.fault.SolveFault.{SolveFault}
@@ -48,14 +50,14 @@ centre_small : (x : List ℤ) (i n : ℕ) → length x ≡ n → All IsPart x �
 centre_small x i n long parts h =
     part_size (part x i) (All-get_or IsPart x i (pos 0) (subst (λ k. i < k) (sym long) h) parts)
 
--- a sound claim can be printed
-pub sound_claim : (c : CircuitView) (hour : ℕ) (at : Positions) (m : Claim)
+-- a sound claim by an inverse can be printed
+pub sound_claim : (c : CircuitView) (hour : ℕ) (at : Positions) (m : Claim) → IsByInverse m.support
     → IsSoundAt c (hour_powers c.elements hour) at m → IsClaimOf (size_of (layout_of c.elements)) m
-sound_claim c hour at m here = subst (λ n. IsClaimOf n m) (network_size c (hour_powers c.elements hour) at) (record {
+sound_claim c hour at m inverse here = subst (λ n. IsClaimOf n m) (network_size c (hour_powers c.elements hour) at) (record {
   centre_long = here.sound.centre.long;
   radii_long = here.sound.radii_long;
   mismatches_long = here.sound.mismatches_long;
-  inverse = here.sound.inverse;
+  inverse = sound_inverse (network_at c (hour_powers c.elements hour) at) m inverse here.sound;
   centre = λ i h. centre_small m.centre i _ here.sound.centre.long here.sound.centre.parts h;
   radii = here.sound.radii_most;
   mismatches = here.sound.mismatches_most;

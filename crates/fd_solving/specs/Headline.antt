@@ -13,7 +13,7 @@ use Rattle.fd_daily.specs.fd_pattern.Views.{NetworkView}
 use Rattle.fd_daily.specs.fd_settings.Hours.{hour_powers}
 use Rattle.fd_daily.specs.fd_devices.Scripted.{circuit_parts}
 use Rattle.fd_daily.specs.fd_enclosure.Encloses.{IsImpedance}
-use Rattle.fd_daily.specs.fd_enclosure.Sound.{Claim, IsSound, certificate_of, number_at}
+use Rattle.fd_daily.specs.fd_enclosure.Sound.{Claim, IsSound, certificate_of, inverse_in, number_at, parts_of}
 use Rattle.fd_daily.specs.fd_enclosure.Ties.{IsTied}
 use Rattle.fd_daily.specs.fd_inject.Procedure.{solution_of}
 use Rattle.fd_daily.specs.fd_queue.Controls.{Positions}
@@ -55,7 +55,7 @@ module _ (circuit : CircuitView) (hour : ℕ) (at : Positions) where
   -- a state of any denominator in the trust box of a round that meets the round's mismatches
   pub record IsOtherState (m : Claim) (x : State) : Type 0 where
     pub over : 0 < x.over
-    pub inside : IsInBox (layout_of circuit.elements) m.centre x
+    pub inside : IsInBox (parts_of m.support) (layout_of circuit.elements) m.centre x
     pub meets : MeetsRound m x
 
   -- each of them is within the radii of the round's state
@@ -103,7 +103,7 @@ module _ (circuit : CircuitView) (hour : ℕ) (at : Positions) where
   abbrev pub HasItsBox : Claim → Type 0
   HasItsBox m =
       (place : ℕ) → place < equation_count
-      → number_at m.boxes place ≡ box_at (layout_of circuit.elements) m.centre place
+      → number_at m.boxes place ≡ box_at (parts_of m.support) (layout_of circuit.elements) m.centre place
 
   -- both parts of a voltage and of a current have one radius and one box
   abbrev pub HaveOneBall : Claim → Type 0
@@ -119,8 +119,8 @@ module _ (circuit : CircuitView) (hour : ℕ) (at : Positions) where
   -- equations are linear, so is every state outside the box that meets them. Box and radius are printed once for both
   -- parts.
   pub record IsSolution (m : Claim) : Type 0 where
-    pub state : solution_of hour_network (limits_of circuit.options) ≡ Ok (m.centre, m.inverse)
-    pub certificate : certificate_of hour_network m.centre m.inverse ≡ Ok m
+    pub state : solution_of hour_network (limits_of circuit.options) ≡ Ok (m.centre, inverse_in m.support)
+    pub certificate : certificate_of hour_network m.centre (inverse_in m.support) ≡ Ok m
     pub sound : IsSound hour_network m
     pub meets : MeetsRound m (whole_state m.centre)
     pub encloses : EnclosesOthers m

@@ -11,9 +11,10 @@ use Rattle.fd_solving.specs.dss_circuit.Circuit.{CircuitView}
 use Rattle.fd_solving.specs.dss_layout.Layout.{LayoutView, layout_of}
 use Rattle.fd_solving.specs.fd_cert.Agreement.{AgreementLaw, IsAgreeing, IsCandidate}
 use Rattle.fd_solving.specs.fd_cert.Widening.{AreMismatches, IsOfPoint, WideningLaw, wide_place, widened}
-use Rattle.fd_solving.specs.fd_enclosure.Boxes.{IsInTrustBox, boxes_of, half_width}
+use Rattle.fd_solving.specs.fd_enclosure.Boxes.{IsInPart, part_width}
 use Rattle.fd_solving.specs.fd_enclosure.Encloses.{IsWithinRadii}
-use Rattle.fd_solving.specs.fd_enclosure.Sound.{Claim, IsSound, first_loose, greatest_mismatch, mismatch_at, number_at}
+use Rattle.fd_solving.specs.fd_enclosure.Sound.{Claim, HasInverse, IsSound, Support, by_inverse, by_rows, first_loose, greatest_mismatch, mismatch_at}
+use Rattle.fd_solving.specs.fd_enclosure.Sound.{number_at, parts_of}
 use Rattle.fd_solving.specs.fd_equations.Rounded.{list_of}
 use Rattle.fd_solving.specs.fd_pattern.Conditions.{IsNetwork, IsPoint}
 use Rattle.fd_solving.specs.fd_pattern.Views.{NetworkView, kind_of}
@@ -80,8 +81,13 @@ within_half Magnitude half apart free h = ltb-false half apart h
 away_is : (a b : ℤ) → nat_abs (a -ℤ (pos 1 *ℤ b)) ≡ nat_abs (a -ℤ b)
 away_is a b = let same : pos 1 *ℤ b ≡ b = omega (arith, ints) in ap (λ z. nat_abs (a -ℤ z)) same
 
+-- the box of an inverse is that of a two-hundredth
+whole_part : (n : ℕ) (s : Support) → HasInverse n s → parts_of s ≡ 200
+whole_part n (by_inverse c) h = refl
+whole_part n (by_rows p) h = absurd h
+
 module _ (widening : WideningLaw) (agreement : AgreementLaw) (v : NetworkView) (m : Claim) (net : IsNetwork v)
-    (sound : IsSound v m)
+    (sound : IsSound v m) (inverse : HasInverse v.size m.support)
     (x : List ℤ) (point : IsPoint v x) (layout : LayoutView) (sweeps k g r : ℕ)
     (so : SaysSo v m x layout sweeps k g r) where
   e : List ℕ
@@ -104,16 +110,18 @@ module _ (widening : WideningLaw) (agreement : AgreementLaw) (v : NetworkView) (
 
   pub sound_wider : IsSound v (widened v m (greater_mismatches v m x))
   sound_wider =
-      widening v m (greater_mismatches v m x) (record { centre = sound.centre; inverse = sound.inverse })
+      widening v m (greater_mismatches v m x) (record { centre = sound.centre; inverse = inverse })
       (record { long = length-list_of v.size (greater_at v m x); most = most })
       (λ l h. let a = sound.mismatches_least l h in subst (λ n. mismatch_at v m.centre l ≤ n) (sym (read l h))
       (omega (arith, a)))
       so.narrow
 
-  box_is : (place : ℕ) → place < v.size → number_at m.boxes place ≡ half_width v m.centre place
-  box_is place h = ap (λ bs. number_at bs place) sound.boxes ∙ get_or-list_of v.size (half_width v m.centre) place 0 h
+  box_is : (place : ℕ) → place < v.size → number_at m.boxes place ≡ part_width (parts_of m.support) v m.centre place
+  box_is place h =
+      ap (λ bs. number_at bs place) sound.boxes
+      ∙ get_or-list_of v.size (part_width (parts_of m.support) v m.centre) place 0 h
 
-  pub in_box : IsInTrustBox v m.centre (whole_state x)
+  pub in_box : IsInPart (parts_of m.support) v m.centre (whole_state x)
   in_box place h free =
       let outside = λ (j : ℕ). is_outside_by (kind_of v j) (number_at m.boxes j) (apart_at x m.centre j) in
       let close : apart_at x m.centre place ≤ number_at m.boxes place =
@@ -126,7 +134,7 @@ module _ (widening : WideningLaw) (agreement : AgreementLaw) (v : NetworkView) (
       agreement v (widened v m (greater_mismatches v m x)) x net sound_wider (record {
         point = point;
         least = λ l h. subst (λ n. mismatch_at v x l ≤ n) (sym (read l h)) (omega arith);
-        inside = in_box;
+        inside = subst (λ parts. IsInPart parts v m.centre (whole_state x)) (whole_part v.size m.support inverse) in_box;
       })
 
   pub meets_greater : Meets (residual_of v.stamp) (number_at (greater_mismatches v m x)) v.size (whole_state x)

@@ -13,7 +13,7 @@ use Rattle.fd_solving.specs.fd_devices.declared.fault.BuildFault.{BuildFault}
 use Rattle.fd_solving.specs.fd_devices.declared.fault.BuildFault.TheVariants.{Range}
 use Rattle.fd_solving.specs.fd_devices.declared.settings.Positions.{Positions as CodePositions}
 use Rattle.fd_solving.specs.fd_devices.declared.settings.Powers.{Powers}
-use Rattle.fd_solving.specs.fd_enclosure.Sound.{Claim, IsInverse, greatest_mismatch, number_at}
+use Rattle.fd_solving.specs.fd_enclosure.Sound.{Claim, HasInverse, greatest_mismatch, number_at}
 use Rattle.fd_solving.specs.fd_exact.States.{part}
 use Rattle.fd_solving.specs.fd_network.Built.{BuiltView, IsBuilt, IsBuiltOf}
 use Rattle.fd_solving.specs.fd_network.Faults.{IsFaultOf, range_blame}
@@ -56,7 +56,7 @@ module _ (net : BuiltView) (c : CircuitView) (is : IsBuilt net) (built : IsBuilt
             parts = All-from_get_or IsPart m.centre (pos 0)
                 (λ i lt. within (part m.centre i) (h.centre i (subst (λ n. i < n) h.centre_long lt)));
           };
-          inverse = subst (λ n. IsInverse n m.inverse) size h.inverse;
+          inverse = subst (λ n. HasInverse n m.support) size h.inverse;
         };
         boxes_long = boxes ∙ size;
         mismatches_long = h.mismatches_long ∙ size;

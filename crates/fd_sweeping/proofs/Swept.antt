@@ -31,8 +31,8 @@ use Rattle.fd_solving.specs.fd_cert.Agreement.{AgreementLaw}
 use Rattle.fd_solving.specs.fd_cert.Widening.{WideningLaw}
 use Rattle.fd_solving.specs.fd_daily.Hours.{time_of}
 use Rattle.fd_solving.specs.fd_daily.Underway.{no_positions, plant_at}
-use Rattle.fd_solving.specs.fd_enclosure.Boxes.{IsInTrustBox}
-use Rattle.fd_solving.specs.fd_enclosure.Sound.{Claim, loose, number_at, uncertain}
+use Rattle.fd_solving.specs.fd_enclosure.Boxes.{IsInPart}
+use Rattle.fd_solving.specs.fd_enclosure.Sound.{Claim, HasInverse, parts_of, loose, number_at, uncertain}
 use Rattle.fd_solving.specs.fd_network.Laws.{NetworkLaw}
 use Rattle.fd_solving.specs.fd_outcome.Events as event
 use Rattle.fd_solving.specs.fd_outcome.Events.{AllSettles, Event, History, IfSettle, asked, row, settle, swept, waits}
@@ -127,13 +127,13 @@ begun_at timing.Clock now m = refl
 
 -- ---- a settle
 
-to_box : (c : CircuitView) (at : Positions) (centre x : List ℤ)
-    → IsInTrustBox (network_at c (hour_powers c.elements 0) at) centre (whole_state x)
-    → IsInBox (layout_of c.elements) centre (whole_state x)
+to_box : (parts : ℕ) (c : CircuitView) (at : Positions) (centre x : List ℤ)
+    → IsInPart parts (network_at c (hour_powers c.elements 0) at) centre (whole_state x)
+    → IsInBox parts (layout_of c.elements) centre (whole_state x)
 unfolding network_at
-to_box c at centre x h place within free =
+to_box parts c at centre x h place within free =
     let close = h place within free in
-    let same = same_box c (hour_powers c.elements 0) at centre place in
+    let same = same_box parts c (hour_powers c.elements 0) at centre place in
     omega (arith, close, same)
 
 module _ (laws : Laws) (c : CircuitView) (ready : HasPassed c) (within : IsWithinLimits c.elements c.options)
@@ -164,10 +164,11 @@ module _ (laws : Laws) (c : CircuitView) (ready : HasPassed c) (within : IsWithi
   sweep_is : sweep c ≡ Ok result
   sweep_is = ap (λ (o : Option ℕ). swept_unless o result) none
 
-  agreed : (m : Claim) → IsSoundAt c (hour_powers c.elements 0) (script_at c) m → (x : List ℤ) (sweeps g r : ℕ)
+  agreed : (m : Claim) → IsSoundAt c (hour_powers c.elements 0) (script_at c) m → HasInverse (network c).size m.support
+      → (x : List ℤ) (sweeps g r : ℕ)
       → sweep c ≡ Ok (Settled x sweeps) → ladder_in c m (Settled x sweeps) ≡ ladder.Agrees sweeps g r
       → AgreesWith c m x g r
-  agreed m here x sweeps g r settles told =
+  agreed m here inverse x sweeps g r settles told =
       let v = network c in
       let point = settled_there c x sweeps settles in
       let so = says_so v m x (layout_of c.elements) sweeps sweeps g r told in
@@ -176,38 +177,38 @@ module _ (laws : Laws) (c : CircuitView) (ready : HasPassed c) (within : IsWithi
         meets = subst
             (λ n. Meets (equations_of c 0 (script_at c)) (number_at (greater_mismatches v m x)) n (whole_state x)) size
             (here.agrees.up (number_at (greater_mismatches v m x)) v.size (whole_state x) (omega arith)
-            (meets_greater laws.widening laws.agreement v m here.network here.sound x point
+            (meets_greater laws.widening laws.agreement v m here.network here.sound inverse x point
             (layout_of c.elements) sweeps sweeps g r so));
-        inside = to_box c (script_at c) m.centre x
-            (in_box laws.widening laws.agreement v m here.network here.sound x point
+        inside = to_box (parts_of m.support) c (script_at c) m.centre x
+            (in_box laws.widening laws.agreement v m here.network here.sound inverse x point
             (layout_of c.elements) sweeps sweeps g r so);
         near = record {
           over = omega arith;
           within = λ i lt.
-              near_greater laws.widening laws.agreement v m here.network here.sound x point
+              near_greater laws.widening laws.agreement v m here.network here.sound inverse x point
               (layout_of c.elements) sweeps sweeps g r so i
               (subst (λ n. i < n) here.sound.centre.long lt);
         };
-        gap_most = gap_most laws.widening laws.agreement v m here.network here.sound x point
+        gap_most = gap_most laws.widening laws.agreement v m here.network here.sound inverse x point
             (layout_of c.elements) sweeps sweeps g r so;
         same = λ least. record {
           over = omega arith;
           within = λ i lt.
-              near_own laws.widening laws.agreement v m here.network here.sound x point
+              near_own laws.widening laws.agreement v m here.network here.sound inverse x point
               (layout_of c.elements) sweeps sweeps g r so
               (λ l h. least l (subst (λ n. l < n) size h)) i (subst (λ n. i < n) here.sound.centre.long lt);
         };
       }
 
-  true_sweep : (m : Claim) → IsSoundAt c (hour_powers c.elements 0) (script_at c) m
+  true_sweep : (m : Claim) → IsSoundAt c (hour_powers c.elements 0) (script_at c) m → HasInverse (network c).size m.support
       → IsTrueSweep c m (ladder_in c m result)
-  true_sweep m here = record {
+  true_sweep m here inverse = record {
     result = result;
     sweep = sweep_is;
     comes_to = refl;
     agreed = λ x sweeps g r settles told.
         let same : Settled x sweeps ≡ result = cc (sym settles ∙ sweep_is) in
-        agreed m here x sweeps g r settles (ap (ladder_in c m) same ∙ told);
+        agreed m here inverse x sweeps g r settles (ap (ladder_in c m) same ∙ told);
   }
 
   -- ---- the settle of a Solve
@@ -252,7 +253,8 @@ module _ (laws : Laws) (c : CircuitView) (ready : HasPassed c) (within : IsWithi
           first = refl;
           behind = ap (λ (e : SettleEnd). sweep_behind (made_of (r ∷ rest) end) e) well
               ∙ (λ i. sweep_event c r.0 (unless_refused (ladder_in c r.0) (in_range i) (sweep_is i)));
-          is_true = true_sweep r.0 (sound_at r.0 in_range solution);
+          is_true = true_sweep r.0 (sound_at r.0 in_range solution)
+              (sound_inverse (network c) r.0 (is_by_inverse (network c) r.0 solution.certificate) solution.sound);
         }
 
     pub sweep_stands : x.end ≡ settled → StandsBehind x

@@ -3,7 +3,7 @@ use Rattle.std.specs.Prelude.{◌≡◌, ℕ, ◌<◌, ◌≤◌, ℤ, List, ◌
 use Rattle.fd_solving.specs.dss_circuit.Circuit.{CircuitView}
 use Rattle.fd_solving.specs.dss_layout.Layout.{layout_of}
 use Rattle.fd_solving.specs.fd_cert.Widening.{widened}
-use Rattle.fd_solving.specs.fd_enclosure.Sound.{Claim, mismatch_at, number_at}
+use Rattle.fd_solving.specs.fd_enclosure.Sound.{Claim, mismatch_at, number_at, parts_of}
 use Rattle.fd_solving.specs.fd_report.declared.ladders.Ladder.{Ladder}
 use Rattle.fd_solving.specs.fd_report.declared.ladders.Ladder.TheVariants as ladder
 use Rattle.fd_solving.specs.fd_sample.Balls.{IsInBall}
@@ -32,7 +32,7 @@ module _ (c : CircuitView) where
   -- printed radius. Where none of its mismatches is above the printed one, it is within the printed radii.
   pub record AgreesWith (m : Claim) (x : List ℤ) (gap radius : ℕ) : Type 0 where
     pub meets : MeetsRound c 0 (script_at c) (wider m x) (whole_state x)
-    pub inside : IsInBox (layout_of c.elements) m.centre (whole_state x)
+    pub inside : IsInBox (parts_of m.support) (layout_of c.elements) m.centre (whole_state x)
     pub near : IsInBall m.centre (wider m x).radii (whole_state x)
     pub gap_most : gap ≤ radius
     pub same : IsNoWider m x → IsInBall m.centre m.radii (whole_state x)

@@ -8,7 +8,7 @@ use Rattle.fd_solving.specs.fd_equations.Rounded.{list_of}
 use Rattle.fd_solving.specs.fd_pattern.Views.{NetworkView, kind_of}
 use Rattle.fd_solving.specs.fd_pattern.declared.layout.PlaceKind.{PlaceKind}
 use Rattle.fd_solving.specs.fd_pattern.declared.layout.PlaceKind.TheVariants.{Node, Branch, Magnitude}
-use Rattle.fd_solving.specs.fd_enclosure.Sound.{Claim, first_loose, mismatch_at, number_at, radii_of}
+use Rattle.fd_solving.specs.fd_enclosure.Sound.{Claim, first_loose, inverse_in, mismatch_at, number_at, radii_of}
 use Rattle.fd_solving.specs.fd_cert.Widening.{wide_place}
 use Rattle.fd_solving.specs.fd_report.Names.{name_at}
 use Rattle.fd_solving.specs.fd_report.declared.ladders.Ladder.{Ladder}
@@ -47,7 +47,7 @@ module _ (v : NetworkView) (m : Claim) (x : List ℤ) where
 
   -- the greatest radius that the greater mismatches give, of all parts of voltages
   abbrev pub radius : ℕ
-  radius = greatest (λ place. number_at (radii_of v m.centre m.inverse greater_mismatches) place) (2 * v.nodes)
+  radius = greatest (λ place. number_at (radii_of v m.centre (inverse_in m.support) greater_mismatches) place) (2 * v.nodes)
 
   module _ (layout : LayoutView) (sweeps : ℕ) where
     abbrev pub by_width : Option ℕ → Ladder

@@ -1,11 +1,9 @@
 // Claims on the network of a siemens into which 100 ampere flow.
 ghost use Rattle.std.specs.Prelude.{◌≡◌, [], IfOk};
-ghost use Rattle.fd_cert.specs.Claims.{claim_in};
-ghost use Rattle.fd_cert.specs.Rechecks.{HasItsBoxes};
 
 use crate::checks::same;
 use dss_script::Term;
-use fd_cert::{Ball, Certified, NetworkRows, Rule, boxed, recheck};
+use fd_cert::{Ball, NetworkRows, Rule, recheck};
 use fd_inject::{Dense, Rows};
 use fd_settings::{Constant, Layout};
 use std::alloc::{AllocError, Global};
@@ -83,63 +81,22 @@ fn mismatches(alloc: Global, count: usize, first: u128) -> Result<Vec<u128>, All
     Ok(all)
 }
 
-// A claim of which all but the boxes are given; these are those of its centre.
-#[tactic(auto, using(crate::proofs::OwnBoxes::own_boxes))]
-fn claimed(
-    rt: &impl Abort,
-    alloc: Global,
-    net: &NetworkRows,
-    claim: &Claim,
-) -> Result<Certified, AllocError>
-    ensures { IfOk result (λ m. HasItsBoxes net.now (claim_in m)) }
-{
-    let (count, radius, mismatch, diagonal, _) = *claim;
-    let ball = Ball {
-        centre: vec![in alloc; 100_001_000, 0]?,
-        radius: vec![in alloc; 2_001, 2_001]?,
-    };
-    match boxed(
-        alloc,
-        net,
-        ball,
-        mismatches(alloc, 2, 1_000)?,
-        multiple(alloc, ONE)?,
-    )? {
-        Ok(made) => {
-            let Certified {
-                ball,
-                mismatch: _true,
-                boxes,
-                inverse: _one,
-            } = made;
-            let Ball {
-                centre,
-                radius: _least,
-            } = ball;
-            Ok(Certified {
-                ball: Ball {
-                    centre,
-                    radius: vec![in alloc; radius, radius]?,
-                },
-                mismatch: mismatches(alloc, count, mismatch)?,
-                boxes,
-                inverse: multiple(alloc, diagonal)?,
-            })
-        }
-        Err(_) => panic!(rt; "the point has a certificate"),
-    }
-}
-
 #[test]
 fn rechecked(rt: HostRuntime) -> Result<(), Fail> {
     let alloc = rt.alloc();
     let rows = siemens(alloc)?;
     let net = network(&rt, &rows);
     for claim in &CLAIMS {
-        let made = claimed(&rt, alloc, &net, claim)?;
-        match recheck(alloc, &net, &made)? {
-            Some(broken) => same(&rt, (Some(broken.rule), broken.place), (claim.4, 0)),
-            None => same(&rt, None, claim.4),
+        let (count, radius, mismatch, diagonal, broken) = *claim;
+        let ball = Ball {
+            centre: vec![in alloc; 100_001_000, 0]?,
+            radius: vec![in alloc; radius, radius]?,
+        };
+        let inverse = multiple(alloc, diagonal)?;
+        let mismatches = mismatches(alloc, count, mismatch)?;
+        match recheck(alloc, &net, &ball, &mismatches, &inverse)? {
+            Some(found) => same(&rt, (Some(found.rule), found.place), (broken, 0)),
+            None => same(&rt, None, broken),
         }
     }
     Ok(())

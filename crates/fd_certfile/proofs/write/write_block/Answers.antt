@@ -1,9 +1,11 @@
-use Rattle.std.proofs.Common.{◌≡◌, ℕ, ◌<◌, List, [], ◌∷◌, ◌++◌, length, All, ap, sym, subst, ◌∙◌, rules}
+use Rattle.std.proofs.Common.{◌≡◌, ℕ, ◌<◌, ℤ, List, [], ◌∷◌, ◌++◌, length, All, ap, sym, subst, ◌∙◌, rules}
 use Rattle.std.specs.Prelude.{map}
 use Rattle.std.specs.List.{concat}
 use Rattle.fd_settle.specs.declared.round.Act.{Act as Made}
-use Rattle.fd_settle.specs.fd_cert.Claims.{claim_in}
+use Rattle.fd_settle.specs.fd_cert.Claims.{claim_in, support_in}
+use Rattle.fd_settle.proofs.CallerLemmas.fd_cert.{of_sized, of_inverse}
 use Rattle.fd_settle.specs.fd_cert.declared.ball.Certified.{Certified}
+use Rattle.fd_settle.specs.fd_enclosure.Sound.{IsByInverse, inverse_in}
 use Rattle.fd_settle.specs.fd_equations.Rounded.{list_of}
 use Rattle.fd_settle.specs.fd_mat.Rows.{row_of}
 use Rattle.fd_outside.specs.declared.bytes.Record.{Record}
@@ -15,6 +17,11 @@ use Rattle.fd_certfile.proofs.RowTexts.{concat_lines}
 use Rattle.fd_certfile.proofs.Writing.{lines_together, pieces_pushed, sized, writable}
 use Rattle.fd_certfile.proofs.Written.{text_law}
 use Rattle.fd_certfile.proofs.write.write_block.Goals as goal
+
+pub inverse-requires : goal.inverse-requires
+inverse-requires c =
+    subst (λ (m : Certified). IsByInverse (support_in m.support)) (sym c.as_ref-certified.ensures)
+    (of_sized c.args.net.now.rows.size (support_in c.args.made.now.certified.value.support) c.requires.inverse)
 
 pub returns-clause-lines : goal.returns-clause-lines
 returns-clause-lines c =
@@ -30,9 +37,10 @@ returns-clause-lines c =
     ∙ ap (λ (b : List ℕ). b ∷ []) c.in_ok-solution_record.ensures)
     (c.in_ok-push_parts.ensures
     ∙ ap (λ (m : Certified). pieces_of c.push.new.self.items ++ list_of c.size-size.result (part_bytes (claim_in m))) c.as_ref-certified.ensures)
-    (c.requires.inverse.long ∙ sym c.size-size.ensures.rows)
+    ((of_inverse c.args.net.now.rows.size (support_in c.args.made.now.certified.value.support) c.requires.inverse).long
+    ∙ sym c.size-size.ensures.rows)
     (c.in_ok-push_rows.ensures.lines
-    ∙ ap (λ (m : Certified). pieces_of c.push_parts.new.records.items ++ list_of (length m.inverse) (row_bytes m.inverse)) c.as_ref-certified.ensures)
+    ∙ ap (λ (m : List (List ℤ)). pieces_of c.push_parts.new.records.items ++ list_of (length m) (row_bytes m)) (c.inverse.ensures ∙ ap (λ (m : Certified). inverse_in (support_in m.support)) c.as_ref-certified.ensures))
     (c.in_ok-push_acts.ensures.lines
     ∙ ap (λ (acts : List Made).
     pieces_of c.push_rows.new.records.items ++ map line_bytes (map act_line (map act_of acts)))
@@ -45,10 +53,10 @@ returns-clause-read c = λ tail k.
     (block_of c.args.net.now.rows.size c.args.number c.args.hour c.args.round c.args.made.now)))
     ∙ text_law.again Sparse (block_of c.args.net.now.rows.size c.args.number c.args.hour c.args.round c.args.made.now)
     tail (sized c.args.net.now.rows.size c.args.number c.args.hour c.args.round c.args.made.now c.requires
-    (subst (λ (m : Certified). (i : ℕ) → i < length m.inverse → length (row_of m.inverse i) ≡ length m.inverse) c.as_ref-certified.ensures
+    (subst (λ (m : List (List ℤ)). (i : ℕ) → i < length m → length (row_of m i) ≡ length m) (c.inverse.ensures ∙ ap (λ (m : Certified). inverse_in (support_in m.support)) c.as_ref-certified.ensures)
     c.in_ok-push_rows.ensures.wide))
     (writable c.args.net.now.rows.size c.args.number c.args.hour c.args.round c.args.made.now c.requires
-    (subst (λ (m : Certified). (i : ℕ) → i < length m.inverse → length (row_of m.inverse i) ≡ length m.inverse) c.as_ref-certified.ensures
+    (subst (λ (m : List (List ℤ)). (i : ℕ) → i < length m → length (row_of m i) ≡ length m) (c.inverse.ensures ∙ ap (λ (m : Certified). inverse_in (support_in m.support)) c.as_ref-certified.ensures)
     c.in_ok-push_rows.ensures.wide) (search rules) (search rules) (search rules) (search rules)
     (subst (All (λ (a : Made). AreNumbers (act_of a))) c.deref.ensures.value c.in_ok-push_acts.ensures.small))
     k

@@ -3,7 +3,7 @@ use Rattle.fd_solving.specs.dss_layout.declared.nodes.NodeName.{NodeName}
 use Rattle.fd_solving.specs.fd_exact.Greatest.{greatest}
 use Rattle.fd_solving.specs.fd_cert.Claims.{claim_in}
 use Rattle.fd_solving.specs.fd_cert.Widening.{widened}
-use Rattle.fd_solving.specs.fd_enclosure.Sound.{Claim, number_at, radii_of, radius_in}
+use Rattle.fd_solving.specs.fd_enclosure.Sound.{Claim, inverse_in, number_at, radii_of, radius_in}
 use Rattle.fd_solving.specs.fd_pattern.Views.{NetworkView}
 use Rattle.fd_solving.specs.fd_report.declared.ladders.Ladder.TheVariants as ladder
 use Rattle.fd_solving.proofs.CallerLemmas.fd_equations.{length-list_of}
@@ -22,7 +22,7 @@ greatest-requires c =
     let made = rw c.in-Made.is at (c.in_ok-place.ensures.widened c.args.x.now c.requires.own) in
     let long : length c.deref-in-Made.result.now ≡ v.size =
     ap length c.deref-in-Made.ensures.value ∙ ap (λ (w : Claim). length w.radii) made.1
-    ∙ length-radii v m.centre m.inverse e in
+    ∙ length-radii v m.centre (inverse_in m.support) e in
     let nodes : length c.nodes.result.now ≡ v.nodes = ap length c.nodes.ensures ∙ c.requires.layout.nodes in
     let few = c.requires.layout.few in
     omega (arith, long, nodes, few)
