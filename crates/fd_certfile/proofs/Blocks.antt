@@ -6,7 +6,7 @@ use Rattle.std.proofs.lemmas.Bool.{cond-true}
 use Rattle.std.proofs.lemmas.List.{append_assoc, append-nil, length-map, length-append}
 use Rattle.fd_certfile.specs.Lines.{Line, header, solution, state, row, act, end, other}
 use Rattle.fd_certfile.specs.Blocks.{Version, Whole, Sparse, Part, Act, Block, count_of, is_place, part_line, row_line, act_line, numbered_lines, block_lines, IsSized, ◌>>=◌, row_of, part_at, row_at, or_refused, numbered_at, acts_at, block_at, IsBehindActs, Spells}
-use Rattle.fd_certfile.proofs.SameTexts.{let_through}
+use Rattle.fd_lines.proofs.CallerLemmas.{let_through}
 use Rattle.fd_certfile.proofs.RowForms.{is_place_self, place_is, row_again, row_found}
 
 pub bind_ok : {A B : Type 0} (r : Result A (List Line)) (f : A → Result B (List Line)) (y : B) → (r >>= f) ≡ Ok y

@@ -8,12 +8,28 @@ use Rattle.std.proofs.lemmas.List.Elements.{All-from_recursion}
 use Rattle.std.proofs.lemmas.List.{append_assoc}
 use Rattle.std.proofs.lemmas.List.Concat.{flat_map-cons}
 use Rattle.std.proofs.lemmas.List.Splits.{slice_split_at, slice_split_none, length-slice_split, join_with_byte-slice_split}
-use Rattle.fd_certfile.specs.Numbers.{text_eq, IsNumber, numbers_of}
+use Rattle.fd_lines.specs.Numbers.{text_eq, IsNumber, numbers_of}
 use Rattle.fd_certfile.specs.Lines.{Line, header, solution, state, row, act, end, other, is_blank, is_feed, word_of, numbers_in, text_of, bytes_of, header_of, solution_of, state_of, act_of, end_of, line_by, line_with, line_in, line_of, rest_of, lines_in, lines_of, IsKnown, IsLine}
-use Rattle.fd_certfile.proofs.SameTexts.{same_from}
-use Rattle.fd_certfile.proofs.Numbers.{numbers_again, numbers_found}
-use Rattle.fd_certfile.proofs.Inked.{split_text, above_text, lacks_all}
-use Rattle.fd_certfile.specs.Views.{line_by_fields}
+use Rattle.fd_lines.proofs.CallerLemmas.{Above, above_by, above_tested, lacks_all, numbers_again, numbers_found, same_from, some_field, split_by}
+use Rattle.fd_certfile.specs.Views.{line_by_fields, or_other}
+
+-- ---- the text of a line
+
+above_word : (line : Line) → Above 32 (word_of line)
+above_word (header v) = above_tested 32 (word_of (header v)) refl
+above_word (solution n h r s) = above_tested 32 (word_of (solution n h r s)) refl
+above_word (state p c r m) = above_tested 32 (word_of (state p c r m)) refl
+above_word (row fields) = above_tested 32 (word_of (row fields)) refl
+above_word (act t c s) = above_tested 32 (word_of (act t c s)) refl
+above_word end = above_tested 32 (word_of end) refl
+above_word other = tt
+
+split_text : (line : Line) → AllByRecursion IsNumber (numbers_in line)
+    → slice_split is_blank (text_of line) ≡ word_of line ∷ map signed_decimal (numbers_in line)
+split_text line h = split_by (word_of line) (above_word line) (numbers_in line) h
+
+above_text : (line : Line) → AllByRecursion IsNumber (numbers_in line) → Above 10 (text_of line)
+above_text line h = above_by (word_of line) (above_word line) (numbers_in line) h
 
 -- ---- a line is read again
 
@@ -231,3 +247,7 @@ pub line_parted : (text word : List ℕ) (fields : List (List ℕ)) → slice_sp
     → line_by_fields word (numbers_of fields) ≡ line_of text
 unfolding line_of
 line_parted text word fields e = by_fields word (numbers_of fields) ∙ sym (ap line_in e)
+
+-- a field behind the word `end` makes no line
+pub end_more : (text : List ℕ) → other ≡ or_other end_of (numbers_of (slice_split is_blank text))
+end_more text = sym (some_field (or_other end_of) other refl (λ z zs. refl) text)

@@ -6,11 +6,11 @@ use Rattle.std.specs.Option.{option_and_then}
 use Rattle.std.specs.List.{slice_split}
 use Rattle.std.proofs.lemmas.Bool.{cases_Bool, cond-true, cond-false, eq-eqb, ne_eqb, eqb-true, le-leb, lt-ltb}
 use Rattle.std.proofs.lemmas.List.{append_assoc, append-nil, length-append}
-use Rattle.fd_certfile.specs.Numbers.{numbers_of}
+use Rattle.fd_lines.specs.Numbers.{numbers_of}
 use Rattle.fd_certfile.specs.Lines.{is_blank}
 use Rattle.fd_certfile.specs.Blocks.{is_place, is_zero, is_entry, entries_at, pair_of, with_count}
 use Rattle.fd_certfile.specs.Readings.{IsPut, IsUnput, RowIs, entries_in, is_between, kept, zeros}
-use Rattle.fd_certfile.proofs.Fields.{some_field}
+use Rattle.fd_lines.proofs.CallerLemmas.{some_field}
 use Rattle.fd_certfile.proofs.RowReading.{kept_append}
 use Rattle.fd_certfile.proofs.RowForms.{entries_found, pairs_from}
 

@@ -4,7 +4,7 @@ use Rattle.std.proofs.lemmas.List.{append_assoc, append-nil}
 use Rattle.fd_certfile.specs.Lines.{Line, other, line_of, lines_of, rest_of}
 use Rattle.fd_certfile.specs.Blocks.{◌>>=◌, or_refused, numbered_at}
 use Rattle.fd_certfile.proofs.Lines.{of_cons}
-use Rattle.fd_certfile.specs.Cuts.{Lacks}
+use Rattle.fd_lines.specs.Cuts.{Lacks}
 use Rattle.fd_certfile.specs.Readings.{RefusedBehind, behind_front, IsSoFar, IsKept, IsKeptSoFar, cells_of, kept}
 use Rattle.fd_certfile.proofs.RowReading.{kept_append}
 

@@ -4,7 +4,7 @@ use Rattle.std.specs.Prelude.{nat_eq, flat_map, count_by, option_map, option_and
 use Rattle.std.specs.List.{enumerate_from}
 use Rattle.std.proofs.lemmas.Bool.{cases_Bool, cond-true, cond-false, eq-eqb, eqb-true, ne_eqb}
 use Rattle.fd_certfile.specs.Blocks.{Version, Whole, Sparse, is_place, is_zero, is_entry, pair_of, fields_of, entries_at, with_count, row_of}
-use Rattle.fd_certfile.proofs.SameTexts.{let_through, and_then_some, map_some}
+use Rattle.fd_lines.proofs.CallerLemmas.{let_through, and_then_some, map_some}
 
 -- the pairs of entries whose first has this place
 abbrev pub pairs_from : ℕ → List ℤ → List ℤ

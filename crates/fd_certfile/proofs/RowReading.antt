@@ -5,12 +5,12 @@ use Rattle.std.specs.Option.{option_and_then}
 use Rattle.std.specs.List.{slice_split}
 use Rattle.std.proofs.lemmas.Bool.{cond-true, cond-false, eq-eqb, ne_eqb}
 use Rattle.std.proofs.lemmas.List.{append_assoc, append-nil, length-append}
-use Rattle.fd_certfile.specs.Numbers.{numbers_of}
+use Rattle.fd_lines.specs.Numbers.{numbers_of}
 use Rattle.fd_certfile.specs.Lines.{is_blank}
 use Rattle.fd_certfile.specs.Blocks.{Whole, row_of}
-use Rattle.fd_certfile.specs.Cuts.{first_number}
+use Rattle.fd_lines.specs.Cuts.{first_number}
 use Rattle.fd_certfile.specs.Readings.{RowIs, kept}
-use Rattle.fd_certfile.proofs.Fields.{first_none, first_some, some_field}
+use Rattle.fd_lines.proofs.CallerLemmas.{first_none, first_some, some_field}
 
 -- the fields of which so many numbers were taken, and those that are left
 pub record IsTaken (keep : Bool) (old new : List ℤ) (all : List (List ℕ)) (i : ℕ) (rest : List (List ℕ)) : Type 0 where

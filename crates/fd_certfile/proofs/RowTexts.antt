@@ -1,14 +1,13 @@
 -- The text of a row in version 2, and of lines.
-use Rattle.std.proofs.Common.{◌≡◌, ℕ, ◌+◌, ◌<◌, ◌≤◌, ℤ, pos, List, [], ◌∷◌, ◌++◌, length, get_or, drop, refl, ap, sym, ◌∙◌}
+use Rattle.std.proofs.Common.{◌≡◌, ℕ, ◌+◌, ◌<◌, ℤ, pos, List, [], ◌∷◌, ◌++◌, length, get_or, drop, refl, ap, sym, ◌∙◌}
 use Rattle.std.specs.Prelude.{count_by, codes, flat_map, map}
-use Rattle.std.specs.Fmt.{decimal, signed_decimal}
 use Rattle.std.specs.List.{concat, enumerate_from}
-use Rattle.std.proofs.lemmas.List.{append_assoc, drop_all, drop_more}
+use Rattle.std.proofs.lemmas.List.{append_assoc, drop_more}
 use Rattle.fd_certfile.specs.Blocks.{Sparse, fields_of, is_entry, pair_of}
 use Rattle.fd_certfile.specs.Lines.{Line, bytes_of, line_bytes, text_by}
 use Rattle.fd_certfile.specs.Lines as line
 use Rattle.fd_certfile.specs.Texts.{field_text, fields_text}
-use Rattle.fd_certfile.proofs.Fields.{fields_append, text_by_fields}
+use Rattle.fd_lines.proofs.CallerLemmas.{fields_append, text_by_fields}
 use Rattle.fd_certfile.proofs.RowForms.{pairs_from}
 
 pub row_fields : (place : ℤ) (row : List ℤ)
@@ -21,13 +20,6 @@ row_fields place row =
     append_assoc (codes "c" ++ field_text place) (field_text count) (fields_text pairs)
     ∙ append_assoc (codes "c") (field_text place) (field_text count ++ fields_text pairs)
     ∙ text_by_fields (codes "c") (place ∷ count ∷ pairs))
-
--- a place and an entry at the end of a buffer
-pub pair_text : (old buffer : List ℕ) (start place : ℕ) (entry : ℤ)
-    → drop start buffer ≡ 32 ∷ (decimal place ++ 32 ∷ (signed_decimal entry ++ drop 48 old)) → length old ≤ 48
-    → drop start buffer ≡ fields_text (pos place ∷ entry ∷ [])
-pair_text old buffer start place entry e l =
-    e ∙ ap (λ (t : List ℕ). 32 ∷ (decimal place ++ 32 ∷ (signed_decimal entry ++ t))) (drop_all 48 old l)
 
 -- the entries that are left, of which the first has this place
 pub entries_left : (base now next : List ℕ) (row : List ℤ) (i : ℕ) (e : ℤ)

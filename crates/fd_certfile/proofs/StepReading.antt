@@ -6,12 +6,12 @@ use Rattle.std.specs.Option.{option_and_then}
 use Rattle.std.proofs.lemmas.Bool.{cases_Bool, cond-false}
 use Rattle.std.proofs.lemmas.List.{append-nil}
 use Rattle.std.proofs.lemmas.List.Sums.{count_by-le-length}
-use Rattle.fd_certfile.specs.Numbers.{numbers_of}
+use Rattle.fd_lines.specs.Numbers.{numbers_of}
 use Rattle.fd_certfile.specs.Lines.{is_blank}
 use Rattle.fd_certfile.specs.Blocks.{Version, Whole, Sparse, entries_at, is_entry, is_place, row_of, with_count}
-use Rattle.fd_certfile.specs.Cuts.{first_number}
+use Rattle.fd_lines.specs.Cuts.{first_number}
 use Rattle.fd_certfile.specs.Readings.{AreSteps, HasNext, IsNext, IsNoNext, RowIs, entries_by, kept, row_in, zeros}
-use Rattle.fd_certfile.proofs.Fields.{first_some}
+use Rattle.fd_lines.proofs.CallerLemmas.{first_some}
 use Rattle.fd_certfile.proofs.RowForms.{entries_found, place_is}
 use Rattle.fd_certfile.proofs.PairReading.{ArePaired, paired_all, paired_few, paired_more, paired_past, paired_start, paired_wrong}
 use Rattle.fd_certfile.proofs.RowReading.{IsTaken, taken_all, taken_more, taken_none, taken_past, taken_start}

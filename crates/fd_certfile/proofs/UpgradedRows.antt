@@ -8,17 +8,17 @@ use Rattle.std.proofs.lemmas.Fmt.{decimal_digit}
 use Rattle.std.proofs.lemmas.List.{append_assoc, append-nil}
 use Rattle.std.proofs.lemmas.List.Splits.{length-slice_split}
 use Rattle.std.proofs.lemmas.List.Sums.{count_by-le-length}
-use Rattle.fd_certfile.specs.Numbers.{number_of, numbers_of, text_eq}
+use Rattle.fd_lines.specs.Numbers.{number_of, numbers_of, text_eq}
 use Rattle.fd_certfile.specs.Lines.{is_blank, line_bytes, row}
 use Rattle.fd_certfile.specs.Blocks.{Whole, is_entry, is_zero}
 use Rattle.fd_certfile.specs.Texts.{entry_count, entry_text, field_text, fields_text, with_entries}
 use Rattle.fd_certfile.specs.Upgrade.{upgraded}
 use Rattle.fd_certfile.specs.Views.{or_other}
-use Rattle.fd_certfile.proofs.Numbers.{number_again, number_found}
+use Rattle.fd_lines.proofs.CallerLemmas.{number_again, number_found}
 use Rattle.fd_certfile.proofs.PairReading.{count_append}
 use Rattle.fd_certfile.proofs.RowForms.{is_zero_pos, pairs_from}
 use Rattle.fd_certfile.proofs.RowTexts.{row_fields}
-use Rattle.fd_certfile.proofs.SameTexts.{and_then_some, map_some, same_from, same_self}
+use Rattle.fd_lines.proofs.CallerLemmas.{and_then_some, map_some, same_from, same_self}
 
 -- ---- the text of 0
 

@@ -4,7 +4,7 @@ use Rattle.std.specs.Prelude.{◌↔◌, IsSome, map}
 use Rattle.std.specs.List.{AllByRecursion, concat}
 use Rattle.std.proofs.lemmas.Bool.{cases_Bool, cond-true, cond-false}
 use Rattle.std.proofs.lemmas.List.{append_assoc, append-nil, map-append}
-use Rattle.fd_certfile.specs.Numbers.{IsNumber}
+use Rattle.fd_lines.specs.Numbers.{IsNumber}
 use Rattle.fd_certfile.specs.Lines.{Line, header, solution, line_bytes, lines_of, rest_of, IsKnown, IsLine}
 use Rattle.fd_certfile.specs.Blocks.{Version, Whole, Sparse, Part, Act, Block, fields_of, is_zero, part_line, row_line, act_line, numbered_lines, block_lines, IsSized, IsWritable}
 use Rattle.fd_certfile.specs.Certificates.{Certificate, ends, trails, refuses, gives, Reads, IsWhole, blocks_of, lines_behind, certificate_lines, version_in, behind_first, lines_count}

@@ -8,15 +8,15 @@ use Rattle.std.proofs.lemmas.List.Elements.{recursion_from_All}
 use Rattle.fd_settle.specs.fd_exact.States.{entry, part}
 use Rattle.fd_settle.specs.fd_equations.Rounded.{list_of}
 use Rattle.fd_settle.proofs.CallerLemmas.fd_equations.{length-list_of, list_of-ext, list_of-more}
-use Rattle.fd_outside.specs.declared.bytes.Record.{Record}
-use Rattle.fd_outside.specs.Emitted.{pieces_of}
+use Rattle.fd_lines.specs.fd_outside.declared.bytes.Record.{Record}
+use Rattle.fd_lines.specs.fd_outside.Emitted.{pieces_of}
 use Rattle.fd_settle.specs.fd_mat.Rows.{row_of}
 use Rattle.fd_settle.specs.fd_enclosure.Sound.{IsInverse}
 use Rattle.fd_settle.proofs.CallerLemmas.fd_cert.{of_inverse}
 use Rattle.fd_settle.specs.fd_cert.Claims.{claim_in, support_in}
 use Rattle.fd_settle.specs.declared.round.Act.{Act as Made}
 use Rattle.fd_settle.specs.declared.round.Round.{Round}
-use Rattle.fd_certfile.specs.Numbers.{IsNumber}
+use Rattle.fd_lines.specs.Numbers.{IsNumber}
 use Rattle.fd_certfile.specs.Lines.{Line, line_bytes, solution}
 use Rattle.fd_certfile.specs.Blocks.{Sparse, Part, Block, part_line, row_line, act_line, numbered_lines, block_lines, IsSized, IsWritable}
 use Rattle.fd_certfile.specs.Rounds.{AreNumbers, IsRoundOf, act_of, block_of, part_in, rows_in}

@@ -4,7 +4,7 @@ use Rattle.std.specs.Prelude.{map}
 use Rattle.std.specs.List.{AllByRecursion}
 use Rattle.std.proofs.lemmas.Bool.{cases_Bool, cond-true, cond-false}
 use Rattle.std.proofs.lemmas.List.Sums.{count_by-le-length}
-use Rattle.fd_certfile.specs.Numbers.{IsNumber}
+use Rattle.fd_lines.specs.Numbers.{IsNumber}
 use Rattle.fd_certfile.specs.Lines.{Line, lines_of, IsKnown, IsLine}
 use Rattle.fd_certfile.specs.Blocks.{Version, Whole, Sparse, Part, Act, Block, count_of, is_zero, is_entry, fields_of, part_line, row_line, act_line, numbered_lines, block_lines, block_bytes, IsSized, IsWritable, IsBehindActs, block_at}
 use Rattle.fd_certfile.specs.Laws.{TextLaw}

@@ -1,7 +1,7 @@
 -- A block of a certificate, what it is written as, and how it is read from lines.
 use Rattle.std.specs.Prelude.{◌≡◌, ℕ, zero, suc, ℤ, pos, negsuc, ◌==◌, not, Bool, false, List, [], ◌∷◌, ◌++◌, map, flat_map, length, count_by, Option, Some, None, option_map, option_and_then, Result, Ok, Err, if◌then◌else◌}
 use Rattle.std.specs.List.{enumerate_from, AllByRecursion}
-use Rattle.fd_certfile.specs.Numbers.{IsNumber}
+use Rattle.fd_lines.specs.Numbers.{IsNumber}
 use Rattle.fd_certfile.specs.Lines.{Line, solution, state, row, act, bytes_of}
 -- the versions differ in the form of an inverse's rows alone: each entry of a row, or those that aren't 0 with their
 -- places

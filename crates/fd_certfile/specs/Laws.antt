@@ -1,16 +1,10 @@
 -- Laws of the grammar.
 use Rattle.std.specs.Prelude.{◌≡◌, ℤ, ℕ, List, ◌++◌, length, Some, Ok, Err}
-use Rattle.std.specs.Fmt.{signed_decimal}
 use Rattle.std.specs.List.{AllByRecursion}
-use Rattle.fd_certfile.specs.Numbers.{IsNumber, number_of}
+pub use Rattle.fd_lines.specs.Laws.{NumberLaw}
 use Rattle.fd_certfile.specs.Lines.{Line, text_of, bytes_of, line_of, lines_of, IsKnown, IsLine}
 use Rattle.fd_certfile.specs.Blocks.{Version, Whole, Sparse, Block, fields_of, row_of, block_lines, block_bytes, block_at, IsSized, IsBehindActs, IsWritable, Spells, Refuses}
 use Rattle.fd_certfile.specs.Certificates.{Certificate, Reads, IsWhole, blocks_of, lines_behind, certificate_lines, certificate_bytes}
-
--- a number is read from its decimal, and from no other text
-pub record NumberLaw : Type 0 where
-  pub again : (z : ℤ) → IsNumber z → number_of (signed_decimal z) ≡ Some z
-  pub found : (text : List ℕ) (z : ℤ) → number_of text ≡ Some z → (text ≡ signed_decimal z) × IsNumber z
 
 -- a line in the grammar is read from its text, and from no other; what is written before other bytes is read before
 -- their lines

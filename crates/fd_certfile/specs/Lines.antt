@@ -1,8 +1,8 @@
 -- The lines of a certificate: a word, and numbers behind one blank each.
-use Rattle.std.specs.Prelude.{ℕ, ℤ, ◌==◌, Bool, List, [], ◌∷◌, ◌++◌, map, flat_map, Option, Some, None, codes, if◌then◌else◌}
-use Rattle.std.specs.List.{slice_split, join_with_byte, AllByRecursion}
-use Rattle.std.specs.Fmt.{signed_decimal}
-use Rattle.fd_certfile.specs.Numbers.{text_eq, IsNumber, numbers_of}
+use Rattle.std.specs.Prelude.{ℕ, ℤ, List, [], ◌∷◌, ◌++◌, flat_map, Option, Some, None, codes, if◌then◌else◌}
+use Rattle.std.specs.List.{slice_split, AllByRecursion}
+pub use Rattle.fd_lines.specs.Lines.{is_blank, is_feed, text_by}
+use Rattle.fd_lines.specs.Numbers.{text_eq, IsNumber, numbers_of}
 
 pub data Line : Type 0 where
   -- the version
@@ -38,10 +38,6 @@ numbers_in (row fields) = fields
 numbers_in (act time control steps) = time ∷ control ∷ steps ∷ []
 numbers_in end = []
 numbers_in other = []
-
--- a word, and numbers behind one blank each
-abbrev pub text_by : List ℕ → List ℤ → List ℕ
-text_by word numbers = join_with_byte 32 (word ∷ map signed_decimal numbers)
 
 -- the text of a line without its line feed
 abbrev pub text_of : Line → List ℕ
@@ -85,12 +81,6 @@ line_by word numbers =
     else if text_eq word (codes "act") then act_of numbers
     else if text_eq word (codes "end") then end_of numbers
     else other
-
-abbrev pub is_blank : ℕ → Bool
-is_blank c = c == 32
-
-abbrev pub is_feed : ℕ → Bool
-is_feed c = c == 10
 
 abbrev pub line_with : List ℕ → Option (List ℤ) → Line
 line_with word None = other

@@ -1,10 +1,10 @@
 -- What a reader answers, and what the grammar says.
 use Rattle.std.specs.Prelude.{◌≡◌, ◌+◌, ◌-◌, ◌≤◌, ◌⊎◌, ◌&&◌, ℕ, zero, suc, ℤ, pos, negsuc, nat_le, nat_lt, not, ◌<◌, Bool, true, false, Option, Some, None, List, [], ◌∷◌, ◌++◌, flat_map, length, option_map, Result, Ok, Err}
-use Rattle.fd_certfile.specs.Numbers.{numbers_of}
+use Rattle.fd_lines.specs.Numbers.{numbers_of}
 use Rattle.fd_certfile.specs.Lines.{Line}
 use Rattle.fd_certfile.specs.Lines as text
 use Rattle.fd_certfile.specs.Blocks.{Act, ◌>>=◌, numbered_at, Version, Whole, Sparse, Part, part_at, row_at, row_of, is_zero, entries_at, with_count}
-use Rattle.fd_certfile.specs.Cuts.{first_number}
+use Rattle.fd_lines.specs.Cuts.{first_number}
 use Rattle.fd_certfile.specs.declared.fault.Stop.{Stop}
 use Rattle.fd_certfile.specs.declared.fault.Stop.TheVariants as stop
 use Rattle.std.specs.Option.{option_and_then}

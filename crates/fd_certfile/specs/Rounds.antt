@@ -7,7 +7,7 @@ use Rattle.fd_settle.specs.fd_enclosure.Sound.{Claim, HasInverse, greatest_misma
 use Rattle.fd_settle.specs.fd_cert.Claims.{claim_in, support_in}
 use Rattle.fd_settle.specs.declared.round.Act.{Act as Made}
 use Rattle.fd_settle.specs.declared.round.Round.{Round}
-use Rattle.fd_certfile.specs.Numbers.{IsNumber}
+use Rattle.fd_lines.specs.Numbers.{IsNumber}
 use Rattle.fd_certfile.specs.Blocks.{Act, Block, Part, Sparse, IsBehindActs, block_at, block_lines, part_line, row_line}
 use Rattle.fd_settle.specs.fd_mat.Rows.{row_of}
 use Rattle.fd_certfile.specs.Lines.{line_bytes, lines_of}

@@ -1,16 +1,9 @@
--- The numbers of a line as text.
+-- The entries of a row as text.
 use Rattle.std.specs.Prelude.{ℕ, ℤ, pos, List, [], ◌∷◌, ◌++◌, codes, count_by, flat_map, if◌then◌else◌}
 use Rattle.std.specs.List.{enumerate_from}
-use Rattle.std.specs.Fmt.{signed_decimal}
-use Rattle.fd_certfile.specs.Numbers.{text_eq}
+pub use Rattle.fd_lines.specs.Texts.{field_text, fields_text}
+use Rattle.fd_lines.specs.Numbers.{text_eq}
 use Rattle.fd_certfile.specs.Blocks.{is_entry, pair_of}
-
--- a blank and a number
-abbrev pub field_text : ℤ → List ℕ
-field_text z = 32 ∷ signed_decimal z
-
-abbrev pub fields_text : List ℤ → List ℕ
-fields_text numbers = flat_map field_text numbers
 
 -- the text of a field behind the place of its entry, and how many entries it is: none where it spells 0
 abbrev pub entry_text : ℕ → List ℕ → List ℕ

@@ -1,7 +1,7 @@
 -- What the definitions see of the code's lines.
 use Rattle.std.specs.Prelude.{ℕ, ℤ, List, Option, Some, None, codes, option_map, if◌then◌else◌}
-use Rattle.fd_certfile.specs.Numbers.{numbers_of, text_eq}
-use Rattle.fd_certfile.specs.Cuts.{texts_of}
+use Rattle.fd_lines.specs.Numbers.{numbers_of, text_eq}
+use Rattle.fd_lines.specs.Cuts.{texts_of}
 use Rattle.fd_certfile.specs.Lines as text
 use Rattle.fd_certfile.specs.Blocks as blocks
 use Rattle.fd_certfile.specs.declared.ahead.Head.{Head}

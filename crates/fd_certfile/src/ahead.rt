@@ -9,11 +9,11 @@ ghost use Rattle.fd_certfile.specs.Views.{head, view};
 
 use crate::block::{Part, acts, parts, rows};
 use crate::cells::Cells;
-use crate::cut::cut;
 use crate::fault::Stop;
 use crate::line::{Line, read_line};
 use crate::row::is_place;
 use crate::version::Version;
+use fd_lines::cut;
 use std::alloc::Global;
 
 /// The numbers of a solution line.

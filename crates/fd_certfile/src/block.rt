@@ -7,11 +7,11 @@ ghost use Rattle.fd_certfile.specs.Readings.{Keeps, act_in, as_they_are, cells_o
 ghost use Rattle.fd_certfile.specs.Views.{act, part, view};
 
 use crate::cells::Cells;
-use crate::cut::cut;
 use crate::fault::Stop;
 use crate::line::{Line, read_line};
 use crate::row::{is_place, push_row};
 use crate::version::Version;
+use fd_lines::cut;
 use std::alloc::{AllocError, Global};
 
 /// What a certificate claims of an unknown and its row, in whole microvolts or microamperes.

@@ -8,8 +8,8 @@ ghost use Rattle.fd_certfile.specs.Rules.{same_act};
 ghost use Rattle.fd_certfile.specs.Views.{act};
 
 use crate::block::{ClaimedAct, act_of};
-use crate::cut::cut;
 use crate::line::read_line;
+use fd_lines::cut;
 use fd_settle::Act;
 
 // The act of the next line, and the bytes behind it.

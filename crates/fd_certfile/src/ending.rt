@@ -4,8 +4,8 @@ ghost use Rattle.fd_certfile.specs.Lines.{lines_of};
 ghost use Rattle.fd_certfile.specs.Reader.{is_end, is_solution, starts_with_end};
 ghost use Rattle.fd_certfile.specs.Views.{view};
 
-use crate::cut::cut;
 use crate::line::{Line, read_line};
+use fd_lines::cut;
 
 pub(crate) fn is_end(line: &Line<'_>) -> bool
     ensures { result ≡ is_end (view line.now) }

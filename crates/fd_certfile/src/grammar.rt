@@ -1,12 +1,6 @@
 // Laws of the grammar: functions without code, whose contracts are the laws.
 ghost use Rattle.fd_certfile.specs.Examples.{SparseRows, BlockCases};
-ghost use Rattle.fd_certfile.specs.Laws.{NumberLaw, LineLaw, RowLaw, BlockLaw, TextLaw, CertificateLaw};
-
-/// A number is read from its decimal, and from no other text.
-#[tactic(auto, using(crate::proofs::Numbers::number_law))]
-pub fn number_law()
-    ensures { NumberLaw }
-{}
+ghost use Rattle.fd_certfile.specs.Laws.{LineLaw, RowLaw, BlockLaw, TextLaw, CertificateLaw};
 
 /// A line is read from its text, and from no other.
 #[tactic(auto, using(crate::proofs::Laws::line_law))]

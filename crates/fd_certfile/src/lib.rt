@@ -14,14 +14,10 @@
 //!
 //! - `grammar`: laws of the grammar
 //! - `rule`: laws of the rules, and of what a certificate comes to
-//! - `texts`: the texts of lines
+//! - `texts`: the texts of rows, and of the first and the last line
 //! - `write`: the lines of a round
 //! - `upgrades`: a certificate brought over to version 2
 //! - `version`: the versions
-//! - `number`: the number that a field spells
-//! - `cut`: bytes cut at one of them
-//! - `short`: numbers of few digits
-//! - `field`: the fields of a line
 //! - `line`: a line
 //! - `cells`: numbers in 64 bits, and beside them those that need more
 //! - `row`: a row of an inverse, read into cells
@@ -39,17 +35,13 @@ mod block;
 mod cells;
 mod claim;
 mod claimed_acts;
-mod cut;
 mod ending;
 mod fault;
-mod field;
 mod grammar;
 mod line;
-mod number;
 mod reader;
 mod row;
 mod rule;
-mod short;
 mod texts;
 mod upgrades;
 mod version;
@@ -58,7 +50,7 @@ mod write;
 pub use block::Part;
 pub use fault::CertFileFault;
 pub use grammar::{
-    block_cases, block_law, certificate_law, line_law, number_law, row_law, sparse_rows, text_law,
+    block_cases, block_law, certificate_law, line_law, row_law, sparse_rows, text_law,
 };
 pub use reader::{CertReader, Claimed};
 pub use rule::{
@@ -70,7 +62,7 @@ pub use version::Version;
 pub use write::write_block;
 
 // Handed on from the crates below.
-pub use fd_outside::{Found, LibFault, Library, Record, Sink, SinkFault, emit};
+pub use fd_lines::{Found, LibFault, Library, Record, Sink, SinkFault, emit, number_law};
 pub use fd_settle::{
     Act, Ball, CapProbe, CapState, CertFault, Certified, Dense, Entry, Limits, Measured, Network,
     NetworkRows, Point, Queue, RegProbe, RegState, Round, Rows, Rule, Solver, Verdict,

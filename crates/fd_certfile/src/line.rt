@@ -1,12 +1,12 @@
 // The lines of a certificate.
 ghost use Rattle.std.specs.Prelude.{◌≡◌};
 ghost use Rattle.std.specs.Option.{option_map};
-ghost use Rattle.fd_certfile.specs.Cuts.{texts_of};
+ghost use Rattle.fd_lines.specs.Cuts.{texts_of};
 ghost use Rattle.fd_certfile.specs.Lines.{act_of, end_of, header_of, line_of, solution_of, state_of};
-ghost use Rattle.fd_certfile.specs.Numbers.{numbers_of, text_eq};
+ghost use Rattle.fd_lines.specs.Numbers.{numbers_of, text_eq};
 ghost use Rattle.fd_certfile.specs.Views.{line_by_fields, or_other, view};
 
-use crate::field::{Fields, four, one, parted, three};
+use fd_lines::{Fields, four, one, parted, three};
 
 /// A line of a certificate. The numbers of a row of an inverse are left to be read.
 #[derive(Clone, Copy, Drop)]

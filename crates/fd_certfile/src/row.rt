@@ -3,17 +3,16 @@ ghost use Rattle.std.specs.Prelude.{◌≡◌, ◌≤◌, ◌+◌, ◌-◌, ◌<
 ghost use Rattle.std.specs.List.{slice_split};
 ghost use Rattle.std.specs.Option.{option_map};
 ghost use Rattle.fd_certfile.specs.Blocks.{Sparse, is_place, is_zero, row_at};
-ghost use Rattle.fd_certfile.specs.Cuts.{texts_of};
+ghost use Rattle.fd_lines.specs.Cuts.{texts_of};
 ghost use Rattle.fd_certfile.specs.Lines.{is_blank};
-ghost use Rattle.fd_certfile.specs.Numbers.{numbers_of};
+ghost use Rattle.fd_lines.specs.Numbers.{numbers_of};
 ghost use Rattle.fd_certfile.specs.Readings.{AreSteps, HasNext, IsNext, IsNoNext, IsPair, IsPut, IsUnput, PushesRow, entries_by, is_between, kept, row_in, zeros};
 ghost use Rattle.fd_certfile.specs.Views.{view};
 
 use crate::cells::Cells;
-use crate::field::{Fields, first};
 use crate::line::Line;
-use crate::short::short_pair;
 use crate::version::Version;
+use fd_lines::{Fields, first, short_pair};
 use std::alloc::AllocError;
 
 /// Whether a number is that of this place.

@@ -2,12 +2,12 @@
 ghost use Rattle.std.specs.Prelude.{◌≡◌, ◌+◌, ◌<◌, ◌^◌, ◌++◌, IsSome, List, Option, Some, None, IfOk, IfErr, IfSome, IfNone, OnOk, codes, length, map};
 ghost use Rattle.std.specs.List.{slice_split};
 ghost use Rattle.std.specs.Option.{option_map};
-ghost use Rattle.fd_outside.specs.Emitted.{pieces_of};
+ghost use Rattle.fd_lines.specs.fd_outside.Emitted.{pieces_of};
 ghost use Rattle.fd_settle.specs.fd_cert.declared.rule.Rule.TheVariants.{Grammar};
 ghost use Rattle.fd_certfile.specs.Blocks.{Block, Whole};
-ghost use Rattle.fd_certfile.specs.Cuts.{texts_of};
+ghost use Rattle.fd_lines.specs.Cuts.{texts_of};
 ghost use Rattle.fd_certfile.specs.Lines.{IsKnown, is_blank, line_bytes, line_of, lines_of, row};
-ghost use Rattle.fd_certfile.specs.Numbers.{numbers_of, text_eq};
+ghost use Rattle.fd_lines.specs.Numbers.{numbers_of, text_eq};
 ghost use Rattle.fd_certfile.specs.Readings.{lines_before};
 ghost use Rattle.fd_certfile.specs.Texts.{entry_count, entry_text, with_entries};
 ghost use Rattle.fd_certfile.specs.Upgrade.{AreKnown, IsOutside, IsRefusal, IsRefusedLine, IsUpgraded, UpgradeLaw, upgraded};
@@ -16,14 +16,12 @@ ghost use Rattle.fd_certfile.specs.Views.{or_other, view};
 ghost use Rattle.fd_certfile.specs.declared.fault.CertFileFault.TheVariants as fault;
 
 use crate::ahead::read_block;
-use crate::cut::cut;
 use crate::ending::is_ended;
 use crate::fault::{CertFileFault, Stop};
-use crate::field::{Fields, parted};
 use crate::line::{Line, read_line};
-use crate::texts::{header_record, push_count, push_field, text_record};
+use crate::texts::header_record;
 use crate::version::{Version, version_named};
-use fd_outside::{Bytes, Record};
+use fd_lines::{Bytes, Fields, Record, cut, parted, push_count, push_field, text_record};
 use fd_settle::Rule;
 use std::alloc::{AllocError, Global};
 

@@ -4,13 +4,13 @@ ghost use Rattle.fd_settle.specs.fd_cert.Claims.{claim_in};
 ghost use Rattle.fd_settle.specs.fd_enclosure.Sound.{number_at};
 ghost use Rattle.fd_settle.specs.fd_equations.Rounded.{list_of};
 ghost use Rattle.fd_settle.specs.fd_mat.Rows.{row_of};
-ghost use Rattle.fd_outside.specs.Emitted.{pieces_of};
+ghost use Rattle.fd_lines.specs.fd_outside.Emitted.{pieces_of};
 ghost use Rattle.fd_certfile.specs.Blocks.{act_line};
 ghost use Rattle.fd_certfile.specs.Lines.{line_bytes, solution};
 ghost use Rattle.fd_certfile.specs.Rounds.{AreNumbers, IsRoundOf, act_of, block_of, AreLinesOf, AreReadAs, part_bytes, row_bytes};
 
-use crate::texts::{line_record, row_record};
-use fd_outside::Record;
+use crate::texts::row_record;
+use fd_lines::{Record, line_record};
 use fd_settle::{Act, Certified, Dense, Network, Round};
 use std::alloc::{AllocError, Global};
 

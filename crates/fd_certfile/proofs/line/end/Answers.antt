@@ -1,4 +1,4 @@
-use Rattle.fd_certfile.proofs.Fields.{end_more}
+use Rattle.fd_certfile.proofs.Lines.{end_more}
 use Rattle.fd_certfile.proofs.line.end.Goals as goal
 
 pub returns-in-Some : goal.returns-in-Some

@@ -2,7 +2,7 @@ use Rattle.std.proofs.Common.{◌≡◌, sym, subst, ◌∙◌, arith, rules, to
 use Rattle.std.specs.Int.{w64, w128, FitsUnsigned}
 use Rattle.std.specs.Option.{option_map}
 use Rattle.std.proofs.lemmas.Int.{ints, to_z-of_z}
-use Rattle.fd_certfile.specs.Cuts.{texts_of}
+use Rattle.fd_lines.specs.Cuts.{texts_of}
 use Rattle.fd_certfile.proofs.StepReading.{past_row}
 use Rattle.fd_certfile.proofs.row.push_counted.Goals as goal
 

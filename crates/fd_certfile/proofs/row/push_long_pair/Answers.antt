@@ -2,7 +2,7 @@ use Rattle.std.proofs.Common.{ℕ, ℤ, Option, IfNone, inr, subst, rules, FitsS
 use Rattle.std.specs.Int.{w128}
 use Rattle.std.proofs.lemmas.Int.{to_z-of_z}
 use Rattle.std.specs.Option.{option_map}
-use Rattle.fd_certfile.specs.Cuts.{texts_of}
+use Rattle.fd_lines.specs.Cuts.{texts_of}
 use Rattle.fd_certfile.specs.Readings.{IsUnput}
 use Rattle.fd_certfile.proofs.row.push_long_pair.Goals as goal
 

@@ -1,7 +1,7 @@
 use Rattle.std.proofs.Common.{ap, sym, subst}
 use Rattle.std.specs.Option.{option_map}
 use Rattle.fd_certfile.specs.Blocks.{Version}
-use Rattle.fd_certfile.specs.Cuts.{texts_of}
+use Rattle.fd_lines.specs.Cuts.{texts_of}
 use Rattle.fd_certfile.specs.Readings.{IsNoNext}
 use Rattle.fd_certfile.proofs.StepReading.{no_fields}
 use Rattle.fd_certfile.proofs.row.push_next.Goals as goal

@@ -1,6 +1,6 @@
 use Rattle.std.proofs.Common.{ℕ, List, Option, IfNone, IfSome, Bor, ap, subst, arith}
 use Rattle.std.specs.Option.{option_map}
-use Rattle.fd_certfile.specs.Cuts.{texts_of}
+use Rattle.fd_lines.specs.Cuts.{texts_of}
 use Rattle.fd_certfile.specs.Readings.{IsNext, IsNoNext}
 use Rattle.fd_certfile.proofs.StepReading.{read_all, read_more, read_none, read_past, read_start}
 use Rattle.fd_certfile.proofs.row.push_steps.Goals as goal

@@ -1,5 +1,5 @@
 use Rattle.std.specs.Option.{option_map}
-use Rattle.fd_certfile.specs.Cuts.{texts_of}
+use Rattle.fd_lines.specs.Cuts.{texts_of}
 use Rattle.fd_certfile.proofs.StepReading.{AreRead}
 use Rattle.fd_certfile.proofs.row.push_steps.Given as goal
 

@@ -1,6 +1,6 @@
 use Rattle.std.proofs.Common.{ap, ◌∙◌}
 use Rattle.std.specs.Option.{option_map}
-use Rattle.fd_certfile.specs.Cuts.{texts_of}
+use Rattle.fd_lines.specs.Cuts.{texts_of}
 use Rattle.fd_certfile.proofs.UpgradedRows.{written_all, written_more, written_start}
 use Rattle.fd_certfile.proofs.upgrades.push_entries.Goals as goal
 

@@ -1,6 +1,6 @@
 use Rattle.std.proofs.Common.{length}
 use Rattle.std.specs.Option.{option_map}
-use Rattle.fd_certfile.specs.Cuts.{texts_of}
+use Rattle.fd_lines.specs.Cuts.{texts_of}
 use Rattle.fd_certfile.proofs.UpgradedRows.{AreWritten}
 use Rattle.fd_certfile.proofs.upgrades.push_entries.Given as goal
 

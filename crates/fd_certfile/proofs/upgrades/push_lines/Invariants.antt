@@ -1,6 +1,6 @@
 use Rattle.std.proofs.Common.{◌≡◌, ◌++◌, length}
 use Rattle.std.specs.Prelude.{map}
-use Rattle.fd_outside.specs.Emitted.{pieces_of}
+use Rattle.fd_lines.specs.fd_outside.Emitted.{pieces_of}
 use Rattle.fd_certfile.specs.Lines.{line_bytes, lines_of}
 use Rattle.fd_certfile.specs.Upgrade.{AreKnown, upgraded}
 use Rattle.fd_certfile.proofs.upgrades.push_lines.Given as goal

@@ -1,6 +1,6 @@
 use Rattle.std.proofs.Common.{◌∷◌, ◌++◌, ℕ, List, [], Some, None, ap, refl, sym, subst, ◌∙◌}
-use Rattle.fd_outside.specs.declared.bytes.Record.{Record}
-use Rattle.fd_outside.specs.Emitted.{pieces_of}
+use Rattle.fd_lines.specs.fd_outside.declared.bytes.Record.{Record}
+use Rattle.fd_lines.specs.fd_outside.Emitted.{pieces_of}
 use Rattle.fd_certfile.specs.Certificates.{behind_first}
 use Rattle.fd_certfile.specs.Lines.{lines_of}
 use Rattle.fd_certfile.specs.Upgrade.{IsOutside, IsRefusal}

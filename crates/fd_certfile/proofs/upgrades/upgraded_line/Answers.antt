@@ -1,7 +1,7 @@
 use Rattle.std.proofs.Common.{◌≡◌, ◌++◌, [], ◌∷◌, ℕ, List, ap, sym, subst, ◌∙◌}
 use Rattle.std.specs.List.{slice_split}
 use Rattle.fd_certfile.specs.Lines.{IsKnown, Line, is_blank, line_bytes, row, text_of}
-use Rattle.fd_certfile.specs.Numbers.{numbers_of}
+use Rattle.fd_lines.specs.Numbers.{numbers_of}
 use Rattle.fd_certfile.specs.Upgrade.{upgraded}
 use Rattle.fd_certfile.proofs.Lines.{line_found}
 use Rattle.fd_certfile.proofs.Outside.{ok_map}

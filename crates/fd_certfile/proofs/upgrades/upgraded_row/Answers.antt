@@ -2,7 +2,7 @@ use Rattle.std.proofs.Common.{ℕ, List, ◌∷◌, ◌++◌, ap, ◌∙◌, ari
 use Rattle.std.specs.Prelude.{codes}
 use Rattle.std.specs.List.{slice_split}
 use Rattle.std.specs.Option.{option_map}
-use Rattle.fd_certfile.specs.Cuts.{texts_of}
+use Rattle.fd_lines.specs.Cuts.{texts_of}
 use Rattle.fd_certfile.specs.Lines.{is_blank}
 use Rattle.fd_certfile.proofs.UpgradedRows.{entries_few, entries_known, row_written}
 use Rattle.fd_certfile.proofs.upgrades.upgraded_row.Goals as goal

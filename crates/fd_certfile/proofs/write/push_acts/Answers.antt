@@ -1,6 +1,6 @@
 use Rattle.std.proofs.Common.{◌∙◌, All, ap, subst}
 use Rattle.std.proofs.lemmas.List.{take_all}
-use Rattle.fd_outside.specs.Emitted.{pieces_of}
+use Rattle.fd_lines.specs.fd_outside.Emitted.{pieces_of}
 use Rattle.fd_settle.specs.declared.round.Act.{Act as Made}
 use Rattle.fd_certfile.specs.Blocks.{act_line}
 use Rattle.fd_certfile.specs.Lines.{line_bytes}

@@ -1,6 +1,6 @@
 use Rattle.std.proofs.Common.{◌≡◌, ◌++◌, All, drop, take}
 use Rattle.std.specs.Prelude.{map}
-use Rattle.fd_outside.specs.Emitted.{pieces_of}
+use Rattle.fd_lines.specs.fd_outside.Emitted.{pieces_of}
 use Rattle.fd_certfile.specs.Blocks.{act_line}
 use Rattle.fd_certfile.specs.Lines.{line_bytes}
 use Rattle.fd_certfile.specs.Rounds.{AreNumbers, act_of}

@@ -1,5 +1,5 @@
 use Rattle.fd_settle.specs.fd_cert.Claims.{claim_in}
-use Rattle.fd_outside.specs.Emitted.{pieces_of}
+use Rattle.fd_lines.specs.fd_outside.Emitted.{pieces_of}
 use Rattle.fd_certfile.specs.Blocks.{part_line}
 use Rattle.fd_certfile.specs.Lines.{line_bytes}
 use Rattle.fd_certfile.specs.Rounds.{part_in}

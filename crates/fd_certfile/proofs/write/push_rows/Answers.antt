@@ -3,7 +3,7 @@ use Rattle.std.proofs.lemmas.Int.{to_z-of_z}
 use Rattle.std.proofs.Common.{ℤ, ◌∷◌, rules, ap, ◌∙◌, sym, arith, inl, inr, subst, ◌≡◌, ℕ, length}
 use Rattle.std.proofs.lemmas.Bool.{cases_eq}
 use Rattle.fd_settle.specs.fd_mat.Rows.{row_of}
-use Rattle.fd_outside.specs.Emitted.{pieces_of}
+use Rattle.fd_lines.specs.fd_outside.Emitted.{pieces_of}
 use Rattle.fd_certfile.specs.Blocks.{Sparse, fields_of, row_line}
 use Rattle.fd_certfile.specs.Lines.{line_bytes, row}
 use Rattle.fd_certfile.proofs.Writing.{list_pushed, pieces_pushed}

@@ -1,7 +1,7 @@
 use Rattle.std.proofs.Common.{ℕ, ◌<◌, ◌≡◌, ◌++◌, length}
 use Rattle.fd_settle.specs.fd_equations.Rounded.{list_of}
 use Rattle.fd_settle.specs.fd_mat.Rows.{row_of}
-use Rattle.fd_outside.specs.Emitted.{pieces_of}
+use Rattle.fd_lines.specs.fd_outside.Emitted.{pieces_of}
 use Rattle.fd_certfile.specs.Blocks.{Sparse, row_line}
 use Rattle.fd_certfile.specs.Lines.{line_bytes}
 use Rattle.fd_certfile.proofs.write.push_rows.Given as goal

@@ -8,8 +8,8 @@ use Rattle.fd_settle.specs.fd_cert.declared.ball.Certified.{Certified}
 use Rattle.fd_settle.specs.fd_enclosure.Sound.{IsByInverse, inverse_in}
 use Rattle.fd_settle.specs.fd_equations.Rounded.{list_of}
 use Rattle.fd_settle.specs.fd_mat.Rows.{row_of}
-use Rattle.fd_outside.specs.declared.bytes.Record.{Record}
-use Rattle.fd_outside.specs.Emitted.{pieces_of}
+use Rattle.fd_lines.specs.fd_outside.declared.bytes.Record.{Record}
+use Rattle.fd_lines.specs.fd_outside.Emitted.{pieces_of}
 use Rattle.fd_certfile.specs.Blocks.{Sparse, act_line, block_at, block_lines}
 use Rattle.fd_certfile.specs.Lines.{line_bytes, lines_of}
 use Rattle.fd_certfile.specs.Rounds.{AreNumbers, act_of, block_of, part_bytes, row_bytes}

@@ -1,0 +1,8 @@
+pub mod Numbers
+pub mod Lines
+pub mod Texts
+pub mod Laws
+pub mod Numerals
+pub mod Cuts
+pub mod FewDigits
+pub use Rattle.fd_outside.specs as fd_outside
