@@ -1,14 +1,14 @@
 -- Two rows in the order of the tests make steps.
 use Rattle.std.proofs.Common.{◌≡◌, ℕ, zero, suc, ◌<◌, ◌≤◌, ◌^◌, ℤ, nat_abs, List, [], ◌∷◌, drop, arith, refl, subst, sym}
 use Rattle.fd_base_tests.specs.Crossed.{crossed}
-use Rattle.fd_substitution.specs.Substitution.{CanStep, others_at, pivot_at, rest_at}
-use Rattle.fd_substitution.specs.Sums.{IsInside}
-use Rattle.fd_substitution.specs.fd_triangles.Elimination.{pair_at}
-use Rattle.fd_substitution.specs.fd_triangles.Rows.{entry_at}
-use Rattle.fd_substitution.specs.fd_triangles.Steps.{Parts, parts_of}
-use Rattle.fd_substitution.specs.fd_triangles.fd_derived.fd_factors.fd_exact.States.{part}
-use Rattle.fd_substitution.specs.fd_triangles.fd_derived.declared.entries.Entry.{Entry}
-use Rattle.fd_substitution.specs.fd_triangles.fd_derived.declared.entries.Row.{Row}
+use Rattle.fd_bounds.specs.fd_substitution.Substitution.{CanStep, others_at, pivot_at, rest_at}
+use Rattle.fd_bounds.specs.fd_substitution.Sums.{IsInside}
+use Rattle.fd_bounds.specs.fd_triangles.Elimination.{pair_at}
+use Rattle.fd_bounds.specs.fd_triangles.Rows.{entry_at}
+use Rattle.fd_bounds.specs.fd_triangles.Steps.{Parts, parts_of}
+use Rattle.fd_bounds.specs.fd_derived.fd_factors.fd_exact.States.{part}
+use Rattle.fd_bounds.specs.fd_derived.declared.entries.Entry.{Entry}
+use Rattle.fd_bounds.specs.fd_derived.declared.entries.Row.{Row}
 
 none : IsInside 2 []
 none k l = absurd (omega arith)

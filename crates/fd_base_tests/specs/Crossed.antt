@@ -1,6 +1,6 @@
 -- The order of the tests of steps.
 use Rattle.std.specs.Prelude.{List, [], ◌∷◌}
-use Rattle.fd_substitution.specs.fd_triangles.declared.pair.Pair.{Pair}
+use Rattle.fd_bounds.specs.fd_triangles.declared.pair.Pair.{Pair}
 
 -- the second unknown by the first equation, then the first unknown by the second equation
 abbrev pub crossed : List Pair

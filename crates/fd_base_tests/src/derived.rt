@@ -2,7 +2,7 @@
 // 4 x + y, 8 x + 6 y + z, which may be off by |y|, and x + 8 y + 7 z, each at most 10.
 
 use crate::checks::same;
-use fd_substitution::{Claim, Entry, Equation, Refusal, Row, check};
+use fd_bounds::{Claim, Entry, Equation, Refusal, Row, check};
 use std::alloc::{AllocError, Global};
 
 const ONE: i64 = 0x100_0000_0000;

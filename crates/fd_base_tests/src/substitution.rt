@@ -2,11 +2,11 @@
 // by the second equation. The moves are those of the exact model.
 ghost use Rattle.std.specs.Prelude.{◌≡◌, ℤ, ◌<◌, ◌≤◌, ◌^◌, [], nat_abs, IfOk};
 ghost use Rattle.fd_base_tests.specs.Crossed.{crossed};
-ghost use Rattle.fd_substitution.specs.Substitution.{CanStep};
-ghost use Rattle.fd_substitution.specs.fd_triangles.Steps.{parts_of};
+ghost use Rattle.fd_bounds.specs.fd_substitution.Substitution.{CanStep};
+ghost use Rattle.fd_bounds.specs.fd_triangles.Steps.{parts_of};
 
 use crate::checks::same;
-use fd_substitution::{Entry, Pair, Row, StepFault, step};
+use fd_bounds::{Entry, Pair, Row, StepFault, step};
 use std::alloc::{AllocError, Global};
 
 const ONE: i64 = 0x100_0000_0000;

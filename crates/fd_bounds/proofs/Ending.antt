@@ -1,10 +1,10 @@
 -- Where there are no bounds.
 use Rattle.std.proofs.Common.{◌≡◌, ℕ, ◌<◌, ◌≤◌, ◌^◌, Some, None, List, length}
 use Rattle.std.proofs.lemmas.Bool.{ltb-false}
-use Rattle.fd_derived.specs.fd_factors.fd_exact.FirstLaws.{none_holds}
-use Rattle.fd_derived.specs.Refusals.{added_sizes}
-use Rattle.fd_derived.specs.declared.entries.Equation.{Equation}
-use Rattle.fd_derived.specs.declared.entries.Row.{Row}
+use Rattle.fd_substitution.specs.fd_derived.fd_factors.fd_exact.FirstLaws.{none_holds}
+use Rattle.fd_substitution.specs.fd_derived.Refusals.{added_sizes}
+use Rattle.fd_substitution.specs.fd_derived.declared.entries.Equation.{Equation}
+use Rattle.fd_substitution.specs.fd_derived.declared.entries.Row.{Row}
 use Rattle.fd_bounds.specs.Passes.{row_past}
 use Rattle.fd_bounds.specs.Results.{HasEnded, HasNoPass, none, past}
 use Rattle.fd_bounds.specs.Rows.{unknown_at}

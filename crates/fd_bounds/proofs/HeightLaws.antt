@@ -2,11 +2,11 @@
 use Rattle.std.proofs.Common.{◌≡◌, ◌≢◌, ◌∙◌, ℕ, zero, suc, ◌+◌, ◌*◌, ◌<◌, ◌≤◌, ◌^◌, nat_abs, List, length, arith, ap, refl, inl, inr}
 use Rattle.std.proofs.Math.Nat.{mul-le-mul_left}
 use Rattle.std.proofs.lemmas.Bool.{cases_lt, eq-eqb, ne_eqb}
-use Rattle.fd_derived.specs.fd_factors.Factors.{HasPlaces, allowance, defect, slack}
-use Rattle.fd_derived.specs.fd_factors.fd_exact.SumLaws.{sum_n-le}
-use Rattle.fd_derived.specs.Rows.{coefficient, radius, right_side_at, row_at}
-use Rattle.fd_derived.specs.declared.entries.Equation.{Equation}
-use Rattle.fd_derived.specs.declared.entries.Row.{Row}
+use Rattle.fd_substitution.specs.fd_derived.fd_factors.Factors.{HasPlaces, allowance, defect, slack}
+use Rattle.fd_substitution.specs.fd_derived.fd_factors.fd_exact.SumLaws.{sum_n-le}
+use Rattle.fd_substitution.specs.fd_derived.Rows.{coefficient, radius, right_side_at, row_at}
+use Rattle.fd_substitution.specs.fd_derived.declared.entries.Equation.{Equation}
+use Rattle.fd_substitution.specs.fd_derived.declared.entries.Row.{Row}
 use Rattle.fd_bounds.specs.Passes.{above_part, heights, load}
 use Rattle.fd_bounds.proofs.Weighing.{weigh_le, weigh_same}
 

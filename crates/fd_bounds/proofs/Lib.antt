@@ -6,3 +6,6 @@ pub mod Sizes
 pub mod Loops
 pub mod Passing
 pub mod Ending
+pub mod Covering
+pub mod InOrder
+pub mod CallerLemmas

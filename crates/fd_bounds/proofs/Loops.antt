@@ -2,12 +2,12 @@
 use Rattle.std.proofs.Common.{◌≡◌, ◌≢◌, ◌∙◌, ℕ, suc, ◌+◌, ◌*◌, ◌/◌, ◌<◌, ◌≤◌, ◌^◌, ℤ, pos, Bool, true, false, cond, ltb, Option, Some, None, option_map, List, [], ◌∷◌, ◌++◌, length, set, get_or, take, replicate, arith, ap, refl, subst, sym, inl, inr}
 use Rattle.std.proofs.lemmas.Bool.{cases_eq, cases_lt, cond-true, cond-false, lt-ltb, le-ltb}
 use Rattle.std.proofs.lemmas.List.{get_or-replicate, get_or-set_same, get_or-set_other, get_or_append_left, get_or_past, get_or_push, length-replicate, length_push, take_more}
-use Rattle.fd_derived.specs.fd_factors.fd_exact.First.{first_place}
-use Rattle.fd_derived.specs.fd_factors.fd_exact.FirstLaws.{first_none, first_some}
-use Rattle.fd_derived.specs.Rows.{NamesExist, number_at}
-use Rattle.fd_derived.specs.Sums.{AreZero, capped}
-use Rattle.fd_derived.specs.declared.entries.Equation.{Equation}
-use Rattle.fd_derived.specs.declared.entries.Row.{Row}
+use Rattle.fd_substitution.specs.fd_derived.fd_factors.fd_exact.First.{first_place}
+use Rattle.fd_substitution.specs.fd_derived.fd_factors.fd_exact.FirstLaws.{first_none, first_some}
+use Rattle.fd_substitution.specs.fd_derived.Rows.{NamesExist, number_at}
+use Rattle.fd_substitution.specs.fd_derived.Sums.{AreZero, capped}
+use Rattle.fd_substitution.specs.fd_derived.declared.entries.Equation.{Equation}
+use Rattle.fd_substitution.specs.fd_derived.declared.entries.Row.{Row}
 use Rattle.fd_bounds.specs.Defects.{weighed}
 use Rattle.fd_bounds.specs.Passes.{above_part, bound_unless_wide, bounds, from_last, heights, is_wide_over, load, raised, remainder}
 use Rattle.fd_bounds.specs.Rows.{AreInOrder, pivot_at, unknown_at}

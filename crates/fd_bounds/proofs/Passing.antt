@@ -2,11 +2,11 @@
 use Rattle.std.proofs.Common.{◌≡◌, ◌≢◌, ◌∙◌, ℕ, suc, ◌+◌, ◌<◌, ◌≤◌, ◌^◌, ltb, Option, Some, None, List, length, arith, ap, refl, subst, sym, inl, inr}
 use Rattle.std.specs.Option.{option_or}
 use Rattle.std.proofs.lemmas.Bool.{cases_lt}
-use Rattle.fd_derived.specs.fd_factors.fd_exact.First.{first_place}
-use Rattle.fd_derived.specs.fd_factors.fd_exact.FirstLaws.{none_holds}
-use Rattle.fd_derived.specs.Rows.{number_at}
-use Rattle.fd_derived.specs.declared.entries.Equation.{Equation}
-use Rattle.fd_derived.specs.declared.entries.Row.{Row}
+use Rattle.fd_substitution.specs.fd_derived.fd_factors.fd_exact.First.{first_place}
+use Rattle.fd_substitution.specs.fd_derived.fd_factors.fd_exact.FirstLaws.{none_holds}
+use Rattle.fd_substitution.specs.fd_derived.Rows.{number_at}
+use Rattle.fd_substitution.specs.fd_derived.declared.entries.Equation.{Equation}
+use Rattle.fd_substitution.specs.fd_derived.declared.entries.Row.{Row}
 use Rattle.fd_bounds.specs.Passes.{AreBounds, AreHeights, IsEnd, IsPass, bounds_after, bounds_end, bounds_over, from_last, heights_end, is_wide, pass_end, pass_heights, raised, risen}
 use Rattle.fd_bounds.specs.Results.{AreOfFirst, GoesOn, HasNoPass, ends}
 use Rattle.fd_bounds.specs.Rows.{unknown_at}

@@ -2,15 +2,15 @@
 use Rattle.std.proofs.Common.{◌≡◌, ◌∙◌, ℕ, ◌+◌, ◌*◌, ◌<◌, ◌≤◌, ◌^◌, ℤ, pos, nat_abs, true, false, leb, List, [], ◌∷◌, ◌++◌, length, set, map, get_or, arith, ap, subst, sym, inl, inr}
 use Rattle.std.proofs.lemmas.Bool.{cases_lt, le-leb, lt-leb}
 use Rattle.std.proofs.lemmas.List.{get_or-set_same, get_or-set_other, get_or_append_left, get_or_push, length-map, length_push, map-append}
-use Rattle.fd_derived.specs.fd_factors.Factors.{HasPlaces, allowance, slack, weighted_size}
-use Rattle.fd_derived.specs.fd_factors.fd_exact.States.{part}
-use Rattle.fd_derived.specs.fd_factors.fd_exact.SumLaws.{list_n-append, sum_n-same, sum_n-zero}
-use Rattle.fd_derived.specs.fd_factors.fd_exact.Sums.{sum_n}
-use Rattle.fd_derived.specs.Rows.{coefficient, number_at, radius, right_side_at, row_at, row_defect}
-use Rattle.fd_derived.specs.Sums.{AreTotals, AreZero, capped}
-use Rattle.fd_derived.specs.declared.entries.Equation.{Equation}
-use Rattle.fd_derived.specs.declared.entries.Row.{Row}
-use Rattle.fd_derived.proofs.CallerLemmas.{both_capped, but_one, weighted_capped}
+use Rattle.fd_substitution.specs.fd_derived.fd_factors.Factors.{HasPlaces, allowance, slack, weighted_size}
+use Rattle.fd_substitution.specs.fd_derived.fd_factors.fd_exact.States.{part}
+use Rattle.fd_substitution.specs.fd_derived.fd_factors.fd_exact.SumLaws.{list_n-append, sum_n-same, sum_n-zero}
+use Rattle.fd_substitution.specs.fd_derived.fd_factors.fd_exact.Sums.{sum_n}
+use Rattle.fd_substitution.specs.fd_derived.Rows.{coefficient, number_at, radius, right_side_at, row_at, row_defect}
+use Rattle.fd_substitution.specs.fd_derived.Sums.{AreTotals, AreZero, capped}
+use Rattle.fd_substitution.specs.fd_derived.declared.entries.Equation.{Equation}
+use Rattle.fd_substitution.specs.fd_derived.declared.entries.Row.{Row}
+use Rattle.fd_substitution.proofs.CallerLemmas.fd_derived.{both_capped, but_one, weighted_capped}
 use Rattle.fd_bounds.specs.Defects.{AreDefects, defects_at, sizes_of, weighed}
 use Rattle.fd_bounds.specs.Passes.{load}
 use Rattle.fd_bounds.specs.declared.defects.Defect.{Defect}

@@ -2,15 +2,15 @@
 use Rattle.std.proofs.Common.{◌≡◌, ◌≢◌, ◌∙◌, ℕ, suc, ◌+◌, ◌-◌, ◌*◌, ◌<◌, ◌≤◌, ◌^◌, ℤ, nat_abs, false, Option, Some, None, option_map, List, [], ◌∷◌, length, arith, ap, refl, subst, sym}
 use Rattle.std.specs.Option.{option_or}
 use Rattle.std.proofs.lemmas.Bool.{leb-false, ltb-false}
-use Rattle.fd_derived.specs.fd_factors.Factors.{HasPlaces, weighted_size}
-use Rattle.fd_derived.specs.fd_factors.fd_exact.First.{first_place}
-use Rattle.fd_derived.specs.fd_factors.fd_exact.FirstLaws.{none_holds}
-use Rattle.fd_derived.specs.Accepted.{IsAccepted}
-use Rattle.fd_derived.specs.Refusals.{added_sizes}
-use Rattle.fd_derived.specs.Rows.{HeightIsAbove, IsBounded, bound_of, bounding_row, height_of, number_at, row_at}
-use Rattle.fd_derived.specs.declared.entries.Claim.{Claim}
-use Rattle.fd_derived.specs.declared.entries.Equation.{Equation}
-use Rattle.fd_derived.specs.declared.entries.Row.{Row}
+use Rattle.fd_substitution.specs.fd_derived.fd_factors.Factors.{HasPlaces, weighted_size}
+use Rattle.fd_substitution.specs.fd_derived.fd_factors.fd_exact.First.{first_place}
+use Rattle.fd_substitution.specs.fd_derived.fd_factors.fd_exact.FirstLaws.{none_holds}
+use Rattle.fd_substitution.specs.fd_derived.Accepted.{IsAccepted}
+use Rattle.fd_substitution.specs.fd_derived.Refusals.{added_sizes}
+use Rattle.fd_substitution.specs.fd_derived.Rows.{HeightIsAbove, IsBounded, bound_of, bounding_row, height_of, number_at, row_at}
+use Rattle.fd_substitution.specs.fd_derived.declared.entries.Claim.{Claim}
+use Rattle.fd_substitution.specs.fd_derived.declared.entries.Equation.{Equation}
+use Rattle.fd_substitution.specs.fd_derived.declared.entries.Row.{Row}
 use Rattle.fd_bounds.specs.Passes.{above_part, bounds, bounds_after, bounds_end, bounds_over, from_last, heights, heights_end, is_high, is_wide, load, pass_bounds, pass_heights, remainder, row_past}
 use Rattle.fd_bounds.specs.Results.{AreBounding, AreFirst, AreOfFirst, MakesClaim, StandsFirst}
 use Rattle.fd_bounds.specs.Rows.{AreInOrder, IsInOrder, pivot_at, pivot_of, rest_at, rest_of, unknown_at}

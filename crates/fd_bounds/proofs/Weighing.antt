@@ -3,7 +3,7 @@ use Rattle.std.proofs.Common.{◌≡◌, ℕ, ◌+◌, ◌*◌, ◌/◌, ◌<◌
 use Rattle.std.proofs.Math.Nat.{mul-le-mul_left}
 use Rattle.std.proofs.lemmas.List.Elements.{All-head, All-tail}
 use Rattle.std.proofs.lemmas.Nat.{div-add-mod', mod_below}
-use Rattle.fd_derived.specs.fd_factors.Factors.{weighted_size}
+use Rattle.fd_substitution.specs.fd_derived.fd_factors.Factors.{weighted_size}
 use Rattle.fd_bounds.specs.Passes.{above_part}
 
 pub weigh_same : (f g : ℕ → ℕ) (row : List (ℕ × ℤ)) → All (λ t. f t.0 ≡ g t.0) row → weighted_size row f ≡ weighted_size row g

@@ -1,7 +1,7 @@
 -- Bounds, by those of the unknowns of later rows.
 use Rattle.std.proofs.Common.{◌≡◌, ◌≢◌, ◌∙◌, ℕ, zero, suc, ◌+◌, ◌<◌, ◌≤◌, ◌^◌, false, List, length, arith, ap, refl, subst, inl, inr, All}
 use Rattle.std.proofs.lemmas.Bool.{cases_eq, cases_lt, eq-eqb, ltb-false, ne_eqb, or_parts}
-use Rattle.fd_derived.specs.declared.entries.Row.{Row}
+use Rattle.fd_substitution.specs.fd_derived.declared.entries.Row.{Row}
 use Rattle.fd_bounds.specs.Passes.{above_part, bounds, from_last, is_wide, is_wide_over, remainder}
 use Rattle.fd_bounds.specs.Rows.{pivot_at, rest_at, unknown_at}
 use Rattle.fd_bounds.proofs.Weighing.{weigh_same}

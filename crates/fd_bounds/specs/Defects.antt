@@ -1,9 +1,9 @@
 -- Lists of the defects of rows.
 use Rattle.std.specs.Prelude.{◌≡◌, ℕ, ◌*◌, ◌<◌, nat_abs, List, [], length, map, get_or}
-use Rattle.fd_derived.specs.fd_factors.fd_exact.Sums.{list_n, sum_n}
-use Rattle.fd_derived.specs.Rows.{row_defect}
-use Rattle.fd_derived.specs.declared.entries.Equation.{Equation}
-use Rattle.fd_derived.specs.declared.entries.Row.{Row}
+use Rattle.fd_substitution.specs.fd_derived.fd_factors.fd_exact.Sums.{list_n, sum_n}
+use Rattle.fd_substitution.specs.fd_derived.Rows.{row_defect}
+use Rattle.fd_substitution.specs.fd_derived.declared.entries.Equation.{Equation}
+use Rattle.fd_substitution.specs.fd_derived.declared.entries.Row.{Row}
 use Rattle.fd_bounds.specs.declared.defects.Defect.{Defect}
 use Rattle.fd_bounds.specs.declared.defects.Defects.{Defects}
 

@@ -2,4 +2,7 @@ pub mod Rows
 pub mod Defects
 pub mod Passes
 pub mod Results
-pub use Rattle.fd_derived.specs as fd_derived
+pub mod Factors
+pub use Rattle.fd_substitution.specs.fd_derived as fd_derived
+pub use Rattle.fd_substitution.specs.fd_triangles as fd_triangles
+pub use Rattle.fd_substitution.specs as fd_substitution

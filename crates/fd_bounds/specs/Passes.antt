@@ -1,12 +1,12 @@
 -- Passes over rows in order: from bounds of the unknowns to heights of the rows, and from these to new bounds.
 use Rattle.std.specs.Prelude.{◌≡◌, ℕ, zero, suc, ◌+◌, ◌-◌, ◌/◌, ◌^◌, ◌==◌, ◌||◌, nat_le, nat_lt, Bool, if◌then◌else◌, List, length, Option, Some, None, option_map}
 use Rattle.std.specs.Option.{option_or}
-use Rattle.fd_derived.specs.fd_factors.Factors.{slack, weighted_size}
-use Rattle.fd_derived.specs.fd_factors.fd_exact.First.{first_place}
-use Rattle.fd_derived.specs.Refusals.{added_sizes}
-use Rattle.fd_derived.specs.Rows.{coefficient, number_at, radius, right_side_at, row_at}
-use Rattle.fd_derived.specs.declared.entries.Equation.{Equation}
-use Rattle.fd_derived.specs.declared.entries.Row.{Row}
+use Rattle.fd_substitution.specs.fd_derived.fd_factors.Factors.{slack, weighted_size}
+use Rattle.fd_substitution.specs.fd_derived.fd_factors.fd_exact.First.{first_place}
+use Rattle.fd_substitution.specs.fd_derived.Refusals.{added_sizes}
+use Rattle.fd_substitution.specs.fd_derived.Rows.{coefficient, number_at, radius, right_side_at, row_at}
+use Rattle.fd_substitution.specs.fd_derived.declared.entries.Equation.{Equation}
+use Rattle.fd_substitution.specs.fd_derived.declared.entries.Row.{Row}
 use Rattle.fd_bounds.specs.Rows.{pivot_at, rest_at, unknown_at}
 use Rattle.fd_bounds.specs.declared.fault.BoundFault.{BoundFault}
 use Rattle.fd_bounds.specs.declared.fault.BoundFault.TheVariants.{NoMemory, Unbounded}

@@ -1,10 +1,10 @@
 -- What is found for rows in order: the first pass that stands, or the unknown at which there is none.
 use Rattle.std.specs.Prelude.{◌≡◌, ◌≢◌, ℕ, ◌<◌, List, length, Some, None}
-use Rattle.fd_derived.specs.Accepted.{IsAccepted}
-use Rattle.fd_derived.specs.Rows.{number_at}
-use Rattle.fd_derived.specs.declared.entries.Claim.{Claim}
-use Rattle.fd_derived.specs.declared.entries.Equation.{Equation}
-use Rattle.fd_derived.specs.declared.entries.Row.{Row}
+use Rattle.fd_substitution.specs.fd_derived.Accepted.{IsAccepted}
+use Rattle.fd_substitution.specs.fd_derived.Rows.{number_at}
+use Rattle.fd_substitution.specs.fd_derived.declared.entries.Claim.{Claim}
+use Rattle.fd_substitution.specs.fd_derived.declared.entries.Equation.{Equation}
+use Rattle.fd_substitution.specs.fd_derived.declared.entries.Row.{Row}
 use Rattle.fd_bounds.specs.Passes.{bounds_over, pass_bounds, pass_end, pass_heights, risen, row_past}
 use Rattle.fd_bounds.specs.Rows.{unknown_at}
 use Rattle.fd_bounds.specs.declared.fault.BoundFault.{BoundFault}

@@ -2,11 +2,11 @@
 -- unknown, entries at the unknowns of later rows.
 use Rattle.std.specs.Prelude.{◌≡◌, ◌≢◌, ℕ, ℤ, pos, nat_abs, ◌<◌, ◌≤◌, List, [], ◌∷◌, length}
 use Rattle.std.specs.List.{All}
-use Rattle.fd_derived.specs.fd_factors.Factors.{HasPlaces}
-use Rattle.fd_derived.specs.Accepted.{NamesOnce}
-use Rattle.fd_derived.specs.Rows.{row_at}
-use Rattle.fd_derived.specs.declared.entries.Equation.{Equation}
-use Rattle.fd_derived.specs.declared.entries.Row.{Row}
+use Rattle.fd_substitution.specs.fd_derived.fd_factors.Factors.{HasPlaces}
+use Rattle.fd_substitution.specs.fd_derived.Accepted.{NamesOnce}
+use Rattle.fd_substitution.specs.fd_derived.Rows.{row_at}
+use Rattle.fd_substitution.specs.fd_derived.declared.entries.Equation.{Equation}
+use Rattle.fd_substitution.specs.fd_derived.declared.entries.Row.{Row}
 
 -- the first entry of what a row leaves, and the others
 abbrev pub pivot_of : List (ℕ × ℤ) → ℕ × ℤ

@@ -1,15 +1,15 @@
 // The defects of each row, by their places.
 ghost use Rattle.std.specs.Prelude.{◌≡◌, ℕ, ◌*◌, ◌+◌, ◌<◌, ◌≤◌, ◌^◌, [], pos, nat_abs, length, set, IfOk};
-ghost use Rattle.fd_derived.specs.fd_factors.fd_exact.States.{part};
-ghost use Rattle.fd_derived.specs.fd_factors.fd_exact.Sums.{sum_n};
-ghost use Rattle.fd_derived.specs.Refusals.{added_sizes};
-ghost use Rattle.fd_derived.specs.Rows.{NamesExist, number_at as number_in, row_defect};
-ghost use Rattle.fd_derived.specs.Sums.{AreInside, AreZero, IsSupported, capped};
+ghost use Rattle.fd_substitution.specs.fd_derived.fd_factors.fd_exact.States.{part};
+ghost use Rattle.fd_substitution.specs.fd_derived.fd_factors.fd_exact.Sums.{sum_n};
+ghost use Rattle.fd_substitution.specs.fd_derived.Refusals.{added_sizes};
+ghost use Rattle.fd_substitution.specs.fd_derived.Rows.{NamesExist, number_at as number_in, row_defect};
+ghost use Rattle.fd_substitution.specs.fd_derived.Sums.{AreInside, AreZero, IsSupported, capped};
 ghost use Rattle.fd_bounds.specs.Defects.{AreDefects, weighed};
 ghost use Rattle.fd_bounds.specs.Passes.{row_past as first_row_past};
 ghost use Rattle.fd_bounds.specs.Rows.{AreInOrder};
 
-use fd_derived::{
+use fd_substitution::{
     Equation, Row, add_defects, coefficient_sizes, left_sizes, number_at, plus_product, sizes_added,
 };
 use std::alloc::{AllocError, Global};

@@ -1,8 +1,8 @@
 // From bounds of unknowns to heights of rows, from the first row to the last.
 ghost use Rattle.std.specs.Prelude.{◌≡◌, ℕ, ◌+◌, ◌*◌, ◌<◌, ◌^◌, length, MatchResult};
-ghost use Rattle.fd_derived.specs.fd_factors.fd_exact.Sums.{sum_n};
-ghost use Rattle.fd_derived.specs.Rows.{number_at, radius, right_side_at};
-ghost use Rattle.fd_derived.specs.Sums.{AreTotals, capped};
+ghost use Rattle.fd_substitution.specs.fd_derived.fd_factors.fd_exact.Sums.{sum_n};
+ghost use Rattle.fd_substitution.specs.fd_derived.Rows.{number_at, radius, right_side_at};
+ghost use Rattle.fd_substitution.specs.fd_derived.Sums.{AreTotals, capped};
 ghost use Rattle.fd_bounds.specs.Defects.{AreDefects};
 ghost use Rattle.fd_bounds.specs.Passes.{AreHeights, IsEnd, heights_end, load};
 ghost use Rattle.fd_bounds.specs.Rows.{AreInOrder};
@@ -10,7 +10,7 @@ ghost use Rattle.fd_bounds.specs.Rows.{AreInOrder};
 use crate::defects::{Defects, plus_defects};
 use crate::fault::BoundFault;
 use crate::widths::unknown_of;
-use fd_derived::{Equation, Row, allowances, plus_weighted};
+use fd_substitution::{Equation, Row, allowances, plus_weighted};
 use std::alloc::Global;
 
 // One in units of 2^-40.

@@ -1,6 +1,6 @@
 // One pass after another.
 ghost use Rattle.std.specs.Prelude.{◌≡◌, ◌<◌, None, length, IfOk, MatchResult};
-ghost use Rattle.fd_derived.specs.Rows.{number_at};
+ghost use Rattle.fd_substitution.specs.fd_derived.Rows.{number_at};
 ghost use Rattle.fd_bounds.specs.Defects.{AreDefects};
 ghost use Rattle.fd_bounds.specs.Passes.{IsEnd, IsPass, pass_end};
 ghost use Rattle.fd_bounds.specs.Results.{AreBounding, AreFirst, AreOfFirst, HasEnded, HasNoPass, MakesClaim};
@@ -11,7 +11,7 @@ use crate::fault::BoundFault;
 use crate::heights::heights_over;
 use crate::rising::{first_risen, raised};
 use crate::widths::{unknown_of, widths};
-use fd_derived::{Equation, Row};
+use fd_substitution::{Equation, Row};
 use std::alloc::{AllocError, Global};
 
 /// What bounds the unknowns of derived rows: a height for each row; for each unknown the row that bounds it, and its

@@ -1,7 +1,7 @@
 // Bounds raised, and compared with new ones.
 ghost use Rattle.std.specs.Prelude.{◌≡◌, ℕ, ◌+◌, ◌/◌, ◌<◌, ◌≤◌, ◌^◌, nat_lt, length, IfOk};
-ghost use Rattle.fd_derived.specs.Rows.{number_at};
-ghost use Rattle.fd_derived.specs.fd_factors.fd_exact.First.{first_place};
+ghost use Rattle.fd_substitution.specs.fd_derived.Rows.{number_at};
+ghost use Rattle.fd_substitution.specs.fd_derived.fd_factors.fd_exact.First.{first_place};
 ghost use Rattle.fd_bounds.specs.Passes.{raised as raised_by};
 
 use std::alloc::{AllocError, Global};

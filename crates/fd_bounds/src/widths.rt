@@ -1,14 +1,14 @@
 // From heights of rows to bounds of unknowns, from the last row to the first.
 ghost use Rattle.std.specs.Prelude.{◌≡◌, ◌+◌, ◌<◌, nat_abs, length, MatchResult};
-ghost use Rattle.fd_derived.specs.fd_factors.Factors.{weighted_size};
-ghost use Rattle.fd_derived.specs.Rows.{entries_of, number_at};
-ghost use Rattle.fd_derived.specs.Sums.{capped};
+ghost use Rattle.fd_substitution.specs.fd_derived.fd_factors.Factors.{weighted_size};
+ghost use Rattle.fd_substitution.specs.fd_derived.Rows.{entries_of, number_at};
+ghost use Rattle.fd_substitution.specs.fd_derived.Sums.{capped};
 ghost use Rattle.fd_bounds.specs.Passes.{AreBounds, IsEnd, bound_unless_wide, bounds_end, from_last, remainder as row_remainder};
 ghost use Rattle.fd_bounds.specs.Rows.{AreInOrder, pivot_at, pivot_of, rest_of, unknown_at};
 
 use crate::fault::BoundFault;
 use crate::heights::SUM_LIMIT;
-use fd_derived::{Entry, Equation, Row, plus_weighted};
+use fd_substitution::{Entry, Equation, Row, plus_weighted};
 use std::alloc::Global;
 
 // The greatest bound, 2^60.

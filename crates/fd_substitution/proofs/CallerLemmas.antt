@@ -1,4 +1,6 @@
 -- Lemmas that callers cite.
+pub use Rattle.fd_triangles.proofs.CallerLemmas.fd_derived as fd_derived
+pub use Rattle.fd_triangles.proofs.CallerLemmas as fd_triangles
 use Rattle.std.proofs.Common.{◌≡◌, ◌∙◌, ◌<◌, ◌≤◌, ◌^◌, nat_abs, List, length, drop, arith, ap, subst, sym}
 use Rattle.fd_triangles.specs.Elimination.{pivot_of}
 use Rattle.fd_triangles.specs.Factors.{AreFactors, AreOrdered}

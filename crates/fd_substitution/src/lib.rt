@@ -23,4 +23,7 @@ pub use fault::StepFault;
 pub use moving::step;
 
 // Handed on from the crates below.
-pub use fd_triangles::{Claim, Entry, Equation, FactorFault, Pair, Refusal, Row, check, factors};
+pub use fd_triangles::{
+    Claim, Entry, Equation, FactorFault, Pair, Refusal, Row, add_defects, allowances, check,
+    coefficient_sizes, factors, left_sizes, number_at, plus_product, plus_weighted, sizes_added,
+};

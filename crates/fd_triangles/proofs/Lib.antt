@@ -7,3 +7,4 @@ pub mod Showing
 pub mod Stages
 pub mod Cleared
 pub mod Starting
+pub mod CallerLemmas

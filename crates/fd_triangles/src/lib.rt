@@ -31,5 +31,8 @@ pub use fault::FactorFault;
 pub use pair::Pair;
 
 // Handed on from the crates below.
-pub use fd_derived::{Claim, Entry, Equation, Refusal, Row, check};
+pub use fd_derived::{
+    Claim, Entry, Equation, Refusal, Row, add_defects, allowances, check, coefficient_sizes,
+    left_sizes, number_at, plus_product, plus_weighted, sizes_added,
+};
 pub use fd_mat::near_quotient;

@@ -1,8 +1,8 @@
 use Rattle.std.proofs.Common.{◌≡◌, ◌∙◌, ◌<◌, ◌++◌, [], ◌∷◌, nat_abs, ap, sym, subst, arith, FitsSigned}
 use Rattle.std.specs.Int.{w64}
 use Rattle.std.proofs.lemmas.Int.{to_z-of_z}
-use Rattle.fd_substitution.specs.Substitution.{CanStep}
-use Rattle.fd_substitution.specs.fd_triangles.fd_derived.declared.entries.Entry.{Entry}
+use Rattle.fd_bounds.specs.fd_substitution.Substitution.{CanStep}
+use Rattle.fd_bounds.specs.fd_derived.declared.entries.Entry.{Entry}
 use Rattle.fd_base_tests.specs.Crossed.{crossed}
 use Rattle.fd_base_tests.proofs.Crossed.{two_step}
 use Rattle.fd_base_tests.proofs.substitution.two_rows.Goals as goal

@@ -1,5 +1,5 @@
 use Rattle.std.proofs.Common.{◌≡◌, [], length}
-use Rattle.fd_derived.specs.Sums.{AreZero}
+use Rattle.fd_substitution.specs.fd_derived.Sums.{AreZero}
 use Rattle.fd_bounds.specs.Defects.{AreDefects}
 use Rattle.fd_bounds.proofs.defects.defects_of.Given as goal
 

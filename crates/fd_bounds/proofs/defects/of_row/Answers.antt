@@ -1,8 +1,8 @@
 use Rattle.std.proofs.Common.{◌≡◌, ◌∙◌, ◌*◌, nat_abs, length, ap, sym, subst, ◌<◌}
-use Rattle.fd_derived.specs.fd_factors.fd_exact.States.{part}
-use Rattle.fd_derived.specs.fd_factors.fd_exact.SumLaws.{sum_n-same}
-use Rattle.fd_derived.specs.fd_factors.fd_exact.Sums.{sum_n}
-use Rattle.fd_derived.specs.Rows.{row_defect}
+use Rattle.fd_substitution.specs.fd_derived.fd_factors.fd_exact.States.{part}
+use Rattle.fd_substitution.specs.fd_derived.fd_factors.fd_exact.SumLaws.{sum_n-same}
+use Rattle.fd_substitution.specs.fd_derived.fd_factors.fd_exact.Sums.{sum_n}
+use Rattle.fd_substitution.specs.fd_derived.Rows.{row_defect}
 use Rattle.fd_bounds.proofs.defects.of_row.Goals as goal
 
 pub returns-clause-sizes : goal.returns-clause-sizes

@@ -1,8 +1,8 @@
 use Rattle.std.proofs.Common.{◌≡◌, ◌∙◌, ◌+◌, ◌*◌, take, get_or, arith, ap, sym, rules}
 use Rattle.std.proofs.lemmas.List.{take_all}
-use Rattle.fd_derived.specs.Rows.{number_at}
-use Rattle.fd_derived.specs.Sums.{capped}
-use Rattle.fd_derived.proofs.CallerLemmas.{capped_start, weigh_step}
+use Rattle.fd_substitution.specs.fd_derived.Rows.{number_at}
+use Rattle.fd_substitution.specs.fd_derived.Sums.{capped}
+use Rattle.fd_substitution.proofs.CallerLemmas.fd_derived.{capped_start, weigh_step}
 use Rattle.fd_bounds.specs.Defects.{weighed}
 use Rattle.fd_bounds.specs.declared.defects.Defect.{Defect}
 use Rattle.fd_bounds.proofs.Loops.{weighed_more}

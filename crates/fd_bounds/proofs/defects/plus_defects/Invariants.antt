@@ -1,6 +1,6 @@
 use Rattle.std.proofs.Common.{◌≡◌, ◌+◌, take}
-use Rattle.fd_derived.specs.Rows.{number_at}
-use Rattle.fd_derived.specs.Sums.{capped}
+use Rattle.fd_substitution.specs.fd_derived.Rows.{number_at}
+use Rattle.fd_substitution.specs.fd_derived.Sums.{capped}
 use Rattle.fd_bounds.specs.Defects.{weighed}
 use Rattle.fd_bounds.proofs.defects.plus_defects.Given as goal
 

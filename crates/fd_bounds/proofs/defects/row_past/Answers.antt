@@ -1,6 +1,6 @@
 use Rattle.std.proofs.Common.{◌<◌, ◌≤◌, ◌^◌, length, nat_lt, arith, sym, rules}
-use Rattle.fd_derived.specs.fd_factors.fd_exact.FirstLaws.{first_none, first_some}
-use Rattle.fd_derived.specs.Refusals.{added_sizes}
+use Rattle.fd_substitution.specs.fd_derived.fd_factors.fd_exact.FirstLaws.{first_none, first_some}
+use Rattle.fd_substitution.specs.fd_derived.Refusals.{added_sizes}
 use Rattle.fd_bounds.proofs.Loops.{in_limit, names_exist, none_more, past_limit}
 use Rattle.fd_bounds.proofs.defects.row_past.Goals as goal
 

@@ -1,5 +1,5 @@
 use Rattle.std.proofs.Common.{◌≡◌, ℕ, ◌<◌, ◌^◌, false, nat_lt}
-use Rattle.fd_derived.specs.Refusals.{added_sizes}
+use Rattle.fd_substitution.specs.fd_derived.Refusals.{added_sizes}
 use Rattle.fd_bounds.proofs.defects.row_past.Given as goal
 
 abbrev pub invariant-loop-row : goal.invariant-loop-row

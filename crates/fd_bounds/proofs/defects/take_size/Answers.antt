@@ -1,7 +1,7 @@
 use Rattle.std.proofs.Common.{◌≡◌, ◌∙◌, ◌+◌, ◌*◌, nat_abs, List, ap, sym, FitsSigned, rules}
 use Rattle.std.specs.Int.{w128}
 use Rattle.std.proofs.lemmas.Int.{to_z-of_z}
-use Rattle.fd_derived.specs.fd_factors.fd_exact.States.{part}
+use Rattle.fd_substitution.specs.fd_derived.fd_factors.fd_exact.States.{part}
 use Rattle.fd_bounds.specs.Defects.{weighed}
 use Rattle.fd_bounds.specs.declared.defects.Defect.{Defect}
 use Rattle.fd_bounds.proofs.Sizes.{no_more, weighed_push}

@@ -1,8 +1,8 @@
 use Rattle.std.proofs.Common.{◌≡◌, ◌∙◌, ◌+◌, ◌*◌, ◌<◌, pos, nat_abs, List, ℤ, length, set, drop, get_or, arith, ap, refl, subst, sym}
 use Rattle.std.proofs.lemmas.List.{drop_all, drop_more, length-set}
-use Rattle.fd_derived.specs.fd_factors.fd_exact.States.{part}
-use Rattle.fd_derived.specs.Sums.{IsSupported}
-use Rattle.fd_derived.proofs.CallerLemmas.{supported_less, supported_nothing}
+use Rattle.fd_substitution.specs.fd_derived.fd_factors.fd_exact.States.{part}
+use Rattle.fd_substitution.specs.fd_derived.Sums.{IsSupported}
+use Rattle.fd_substitution.proofs.CallerLemmas.fd_derived.{supported_less, supported_nothing}
 use Rattle.fd_bounds.specs.Defects.{weighed}
 use Rattle.fd_bounds.specs.declared.defects.Defect.{Defect}
 use Rattle.fd_bounds.proofs.Sizes.{by_size, less_one, none_left, noted_all, noted_more}

@@ -1,5 +1,5 @@
 use Rattle.std.proofs.Common.{◌≡◌, ℕ, ◌+◌, length, drop}
-use Rattle.fd_derived.specs.Sums.{IsSupported}
+use Rattle.fd_substitution.specs.fd_derived.Sums.{IsSupported}
 use Rattle.fd_bounds.specs.Defects.{weighed}
 use Rattle.fd_bounds.proofs.Sizes.{by_size}
 use Rattle.fd_bounds.proofs.defects.take_sizes.Given as goal

@@ -1,8 +1,8 @@
 use Rattle.std.proofs.Common.{◌≡◌, ◌∙◌, ℕ, ◌+◌, ◌*◌, ◌/◌, ◌<◌, ◌≤◌, ◌^◌, List, length, arith, ap, subst, sym, rules}
 use Rattle.std.proofs.lemmas.List.{length_push}
-use Rattle.fd_derived.specs.Rows.{number_at, radius, right_side_at}
-use Rattle.fd_derived.specs.fd_factors.fd_exact.Sums.{sum_n}
-use Rattle.fd_derived.specs.Sums.{AreTotals, capped}
+use Rattle.fd_substitution.specs.fd_derived.Rows.{number_at, radius, right_side_at}
+use Rattle.fd_substitution.specs.fd_derived.fd_factors.fd_exact.Sums.{sum_n}
+use Rattle.fd_substitution.specs.fd_derived.Sums.{AreTotals, capped}
 use Rattle.fd_bounds.specs.Passes.{above_part, heights, is_high, load}
 use Rattle.fd_bounds.specs.Rows.{unknown_at}
 use Rattle.fd_bounds.proofs.HeightLaws.{heights_start}

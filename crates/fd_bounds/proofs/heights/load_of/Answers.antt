@@ -1,9 +1,9 @@
 use Rattle.std.proofs.Common.{◌≡◌, ◌∙◌, ℕ, ◌*◌, ◌<◌, ℤ, nat_abs, length, List, ap, subst, sym}
 use Rattle.std.proofs.lemmas.List.{get_or-map}
-use Rattle.fd_derived.specs.fd_factors.Factors.{DerivedRow, weighted_size}
-use Rattle.fd_derived.specs.Rows.{entries_of, number_at, row_defect}
-use Rattle.fd_derived.specs.fd_factors.fd_exact.Sums.{sum_n}
-use Rattle.fd_derived.proofs.CallerLemmas.{row_read}
+use Rattle.fd_substitution.specs.fd_derived.fd_factors.Factors.{DerivedRow, weighted_size}
+use Rattle.fd_substitution.specs.fd_derived.Rows.{entries_of, number_at, row_defect}
+use Rattle.fd_substitution.specs.fd_derived.fd_factors.fd_exact.Sums.{sum_n}
+use Rattle.fd_substitution.proofs.CallerLemmas.fd_derived.{row_read}
 use Rattle.fd_bounds.specs.Defects.{defects_at, sizes_of, weighed}
 use Rattle.fd_bounds.specs.declared.defects.Defect.{Defect}
 use Rattle.fd_bounds.proofs.Loops.{names_exist}

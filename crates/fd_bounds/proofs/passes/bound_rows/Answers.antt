@@ -1,5 +1,5 @@
 use Rattle.std.proofs.Common.{◌≡◌, ◌∙◌, Some, None, length, sym}
-use Rattle.fd_derived.specs.fd_factors.fd_exact.FirstLaws.{place_below}
+use Rattle.fd_substitution.specs.fd_derived.fd_factors.fd_exact.FirstLaws.{place_below}
 use Rattle.fd_bounds.specs.Passes.{row_past}
 use Rattle.fd_bounds.proofs.Ending.{ended_past, has_ended, in_range}
 use Rattle.fd_bounds.proofs.Stands.{makes_claim}

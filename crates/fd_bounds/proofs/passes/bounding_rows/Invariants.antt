@@ -1,5 +1,5 @@
 use Rattle.std.proofs.Common.{◌≡◌, ℕ, ◌<◌, length}
-use Rattle.fd_derived.specs.Rows.{number_at}
+use Rattle.fd_substitution.specs.fd_derived.Rows.{number_at}
 use Rattle.fd_bounds.specs.Rows.{unknown_at}
 use Rattle.fd_bounds.proofs.passes.bounding_rows.Given as goal
 

@@ -1,7 +1,7 @@
 use Rattle.std.proofs.Common.{◌≡◌, ◌∙◌, ℕ, ◌<◌, ◌≤◌, ◌^◌, nat_lt, Some, List, length, replicate, arith, ap, subst, sym, rules}
 use Rattle.std.proofs.lemmas.List.{length-replicate}
-use Rattle.fd_derived.specs.fd_factors.fd_exact.First.{first_place}
-use Rattle.fd_derived.specs.Rows.{number_at}
+use Rattle.fd_substitution.specs.fd_derived.fd_factors.fd_exact.First.{first_place}
+use Rattle.fd_substitution.specs.fd_derived.Rows.{number_at}
 use Rattle.fd_bounds.specs.Passes.{IsEnd, IsPass, pass_end, risen}
 use Rattle.fd_bounds.proofs.Loops.{zeros_read}
 use Rattle.fd_bounds.proofs.Passing.{after_none, goes_on, low_bounds, next_bounds, over_of, pass_ended, rose, stands, starts}

@@ -1,5 +1,5 @@
 use Rattle.std.proofs.Common.{◌≡◌, ℕ, ◌+◌, ◌≤◌, ◌^◌, Some, length}
-use Rattle.fd_derived.specs.Rows.{number_at}
+use Rattle.fd_substitution.specs.fd_derived.Rows.{number_at}
 use Rattle.fd_bounds.specs.Passes.{bounds_after, risen}
 use Rattle.fd_bounds.specs.Results.{GoesOn}
 use Rattle.fd_bounds.proofs.passes.first_pass.Given as goal

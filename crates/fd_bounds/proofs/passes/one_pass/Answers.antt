@@ -1,4 +1,4 @@
-use Rattle.fd_derived.specs.Rows.{number_at}
+use Rattle.fd_substitution.specs.fd_derived.Rows.{number_at}
 use Rattle.fd_bounds.proofs.Passing.{ended_high}
 use Rattle.fd_bounds.proofs.passes.one_pass.Goals as goal
 

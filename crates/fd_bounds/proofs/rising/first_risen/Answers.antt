@@ -1,7 +1,7 @@
 use Rattle.std.proofs.Common.{◌<◌, ◌≤◌, length, nat_lt, arith, sym, rules}
 use Rattle.std.proofs.lemmas.Bool.{le-ltb, lt-ltb}
-use Rattle.fd_derived.specs.fd_factors.fd_exact.FirstLaws.{first_none, first_some}
-use Rattle.fd_derived.specs.Rows.{number_at}
+use Rattle.fd_substitution.specs.fd_derived.fd_factors.fd_exact.FirstLaws.{first_none, first_some}
+use Rattle.fd_substitution.specs.fd_derived.Rows.{number_at}
 use Rattle.fd_bounds.proofs.Loops.{none_more}
 use Rattle.fd_bounds.proofs.rising.first_risen.Goals as goal
 

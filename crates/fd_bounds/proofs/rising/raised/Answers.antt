@@ -1,6 +1,6 @@
 use Rattle.std.proofs.Common.{◌≡◌, ◌∙◌, ℕ, ◌+◌, ◌/◌, ◌^◌, ◌<◌, List, length, arith, ap, subst, sym}
 use Rattle.std.proofs.lemmas.List.{length_push}
-use Rattle.fd_derived.specs.Rows.{number_at}
+use Rattle.fd_substitution.specs.fd_derived.Rows.{number_at}
 use Rattle.fd_bounds.proofs.Loops.{each_push, raised_all}
 use Rattle.fd_bounds.proofs.rising.raised.Goals as goal
 use Rattle.fd_bounds.proofs.rising.raised.Goals.{After-loop-place}

@@ -1,7 +1,7 @@
 use Rattle.std.proofs.Common.{◌∙◌, ◌+◌, ◌<◌, nat_abs, List, ℕ, ℤ, ap, subst, sym}
-use Rattle.fd_derived.specs.fd_factors.Factors.{DerivedRow, weighted_size}
-use Rattle.fd_derived.specs.Rows.{entries_of, number_at}
-use Rattle.fd_derived.proofs.CallerLemmas.{row_there}
+use Rattle.fd_substitution.specs.fd_derived.fd_factors.Factors.{DerivedRow, weighted_size}
+use Rattle.fd_substitution.specs.fd_derived.Rows.{entries_of, number_at}
+use Rattle.fd_substitution.proofs.CallerLemmas.fd_derived.{row_there}
 use Rattle.fd_bounds.specs.Passes.{bound_unless_wide}
 use Rattle.fd_bounds.specs.Rows.{pivot_of, rest_of}
 use Rattle.fd_bounds.proofs.widths.bound_at.Goals as goal

@@ -1,6 +1,6 @@
 use Rattle.std.proofs.Common.{◌≡◌, ◌∙◌, ℕ, ◌<◌, Some, None, List, length, replicate, arith, ap, subst, sym, rules}
 use Rattle.std.proofs.lemmas.List.{length-replicate, length-set}
-use Rattle.fd_derived.specs.Rows.{number_at}
+use Rattle.fd_substitution.specs.fd_derived.Rows.{number_at}
 use Rattle.fd_bounds.specs.Passes.{bound_unless_wide, bounds, from_last, is_wide, remainder}
 use Rattle.fd_bounds.specs.Rows.{pivot_at, unknown_at}
 use Rattle.fd_bounds.proofs.WidthLaws.{bounds_start}

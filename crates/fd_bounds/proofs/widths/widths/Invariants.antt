@@ -1,5 +1,5 @@
 use Rattle.std.proofs.Common.{◌≡◌, ℕ, ◌<◌, false, length}
-use Rattle.fd_derived.specs.Rows.{number_at}
+use Rattle.fd_substitution.specs.fd_derived.Rows.{number_at}
 use Rattle.fd_bounds.specs.Passes.{bounds, is_wide}
 use Rattle.fd_bounds.proofs.widths.widths.Given as goal
 
