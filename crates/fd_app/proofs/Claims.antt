@@ -28,7 +28,7 @@ use Rattle.fd_checking.specs.fd_enclosure.Sound.{unless_loose, unless_uncertain}
 use Rattle.fd_checking.proofs.CallerLemmas.fd_enclosure.{all_narrow, claim_is, not_refused}
 use Rattle.fd_checking.specs.fd_certfile.Blocks.{Act, Block, IsSized, IsWritable, Part}
 use Rattle.fd_checking.specs.fd_certfile.Judging.{judge_of, names, refusal_in, sizes_of}
-use Rattle.fd_checking.specs.fd_certfile.Numbers.{IsNumber}
+use Rattle.fd_checking.specs.fd_certfile.fd_lines.Numbers.{IsNumber}
 use Rattle.fd_checking.specs.fd_certfile.Rounds.{part_in}
 use Rattle.fd_checking.specs.fd_certfile.Rules.{Ball, Holds, Sampled, ball_of, moves, part_of}
 use Rattle.fd_checking.specs.fd_certfile.Rules as rules

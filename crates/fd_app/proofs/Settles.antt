@@ -11,7 +11,7 @@ use Rattle.fd_checking.specs.fd_inject.declared.limits.Limits.{Limits}
 use Rattle.fd_checking.specs.fd_queue.Controls.{Positions}
 use Rattle.fd_checking.specs.fd_queue.Machine.{Act, Machine}
 use Rattle.fd_checking.specs.fd_sample.Decided.{sample_over}
-use Rattle.fd_checking.specs.fd_settle.Compute.{IsComputed}
+use Rattle.fd_checking.specs.fd_settle.Compute.{IsCertificate, IsComputed, computed_of}
 use Rattle.fd_checking.specs.fd_settle.Computed.{Ending, Follows, IsComputedFrom, ended}
 use Rattle.fd_checking.specs.fd_settle.Numbers.{AreActNumbers}
 use Rattle.fd_checking.specs.fd_settle.Plant.{controls_in, network_at, setup_of}
@@ -21,7 +21,7 @@ use Rattle.fd_checking.specs.fd_certfile.Blocks.{Block, IsSized, IsWritable}
 use Rattle.fd_checking.specs.fd_certfile.Blocks as blocks
 use Rattle.fd_checking.specs.fd_certfile.Certificates.{Certificate, gives}
 use Rattle.fd_checking.specs.fd_certfile.Judging.{judge_of}
-use Rattle.fd_checking.specs.fd_certfile.Numbers.{IsNumber}
+use Rattle.fd_checking.specs.fd_certfile.fd_lines.Numbers.{IsNumber}
 use Rattle.fd_checking.specs.fd_certfile.Rules.{Holds, Judge, ball_of, moves}
 use Rattle.fd_checking.specs.fd_certfile.Verdict.{AllHold}
 use Rattle.fd_checking.specs.fd_daily.Underway.{plant_at}
@@ -31,7 +31,7 @@ use Rattle.fd_checking.specs.fd_outcome.Certificates.{act_in, block_in, blocks_f
 use Rattle.fd_checking.specs.fd_outcome.Settles.{Round, Settle, round_of}
 use Rattle.fd_checking.specs.fd_solving.Solving.{rounds_of}
 use Rattle.fd_app.proofs.Claims as claims
-use Rattle.fd_checking.proofs.CallerLemmas.fd_solving.{IsSolutionPoint, solution_point}
+use Rattle.fd_checking.proofs.CallerLemmas.fd_solving.{IsSolutionPoint, its_certificate, solution_point}
 
 -- blocks, and then a certificate
 abbrev pub before : List Block → Certificate → Certificate
@@ -56,12 +56,15 @@ module _ (x : Settle) (limits : Limits) (at : Positions) (m : Claim)
   abbrev v : NetworkView
   v = network_in x.circuit x.hour at
 
+  parts : IsCertificate limits v m
+  parts = its_certificate limits v m computed
+
   there : IsSolutionPoint v m.centre (inverse_in m.support)
-  there = solution_point v limits m.centre (inverse_in m.support) computed.point
+  there = solution_point v limits m.centre (inverse_in m.support) parts.point
 
   module _ (k : ℕ) (acts : List Act) where
     abbrev by_network : Block
-    by_network = claims.block_for v m there computed.certificate x.number x.hour k (map act_in acts)
+    by_network = claims.block_for v m there parts.certificate x.number x.hour k (map act_in acts)
 
     -- the block of a round, by the size of its network
     block_is : by_network ≡ block_in x k (round_of m acts)
@@ -75,12 +78,12 @@ module _ (x : Settle) (limits : Limits) (at : Positions) (m : Claim)
         let look : List _ → List ℕ → Outcome =
         λ centre radii. outcome_of (setup_of x.circuit) machine
         (sampling_of 0 (map (λ p. sample_over p machine.at centre radii) (controls_in x.circuit))) in
-        ap (λ c. look c (map nat_abs (ball_of by_network).radii)) (claims.centres_are v m there computed.certificate)
-        ∙ ap (look m.centre) (claims.radii_back v m there computed.certificate)
+        ap (λ c. look c (map nat_abs (ball_of by_network).radii)) (claims.centres_are v m there parts.certificate)
+        ∙ ap (look m.centre) (claims.radii_back v m there parts.certificate)
 
     pub round_sized : IsSized (block_in x k (round_of m acts))
     round_sized =
-        subst IsSized block_is (claims.sized v m there computed.certificate x.number x.hour k (map act_in acts))
+        subst IsSized block_is (claims.sized v m there parts.certificate x.number x.hour k (map act_in acts))
 
     all_within : (made : List Act) → AllByRecursion HasActNumbers made
         → AllByRecursion (λ (a : blocks.Act). AllByRecursion IsNumber (a.time ∷ a.control ∷ a.steps ∷ []))
@@ -94,7 +97,7 @@ module _ (x : Settle) (limits : Limits) (at : Positions) (m : Claim)
         → AllByRecursion HasActNumbers acts → IsWritable (block_in x k (round_of m acts))
     round_writable n h r s each =
         subst IsWritable block_is
-        (claims.writable v m there computed.certificate x.number x.hour k (map act_in acts) n h r
+        (claims.writable v m there parts.certificate x.number x.hour k (map act_in acts) n h r
         (subst (λ (z : ℕ). z < 2 ^ 127) (sym (size_in x.circuit x.hour at)) s) (all_within acts each))
 
     pub round_holds : (machine : Machine) → machine.at ≡ at
@@ -104,7 +107,7 @@ module _ (x : Settle) (limits : Limits) (at : Positions) (m : Claim)
         (block_in x k (round_of m acts))
     round_holds machine there_at acts_are =
         subst (Holds (judge_of v x.number x.hour k (λ ball. sampled_by (outcome_in x.circuit machine ball)))) block_is
-        (claims.holds v m there computed.certificate x.number x.hour k (map act_in acts)
+        (claims.holds v m there parts.certificate x.number x.hour k (map act_in acts)
         (λ ball. sampled_by (outcome_in x.circuit machine ball))
         (ap sampled_by (outcome_is machine there_at) ∙ acts_are))
 
@@ -136,7 +139,7 @@ module _ (x : Settle) (hours : List ℕ) (more : List CircuitView) where
   module _ (limits : Limits) (n : Machine) (last : Certificate)
       (last_holds : AllHold due after last (behind_it n)) where
     abbrev Computed : Machine → List (Claim × List Act) → Type 0
-    Computed machine rounds = IsComputedFrom limits (plant_at x.circuit x.hour) machine rounds (ended Settled) n
+    Computed machine rounds = IsComputedFrom (computed_of limits) (plant_at x.circuit x.hour) machine rounds (ended Settled) n
 
     abbrev HoldFrom : ℕ → Machine → List (Claim × List Act) → Type 0
     HoldFrom k machine rounds =
@@ -192,8 +195,8 @@ module _ (x : Settle) (hours : List ℕ) (more : List CircuitView) where
   module _ (limits : Limits) (n : Machine) (ending : Ending) (number : x.number < 2 ^ 127) (hour : x.hour < 2 ^ 127)
       (size : size_of (layout_of x.circuit.elements) < 2 ^ 127) where
     fit_behind : (o : Outcome) (r : Claim × List Act) (rest : List (Claim × List Act)) (k : ℕ)
-        → Follows o r.1 rest ending n (λ j. IsComputedFrom limits (plant_at x.circuit x.hour) j rest ending n)
-        → ((j : Machine) → IsComputedFrom limits (plant_at x.circuit x.hour) j rest ending n
+        → Follows o r.1 rest ending n (λ j. IsComputedFrom (computed_of limits) (plant_at x.circuit x.hour) j rest ending n)
+        → ((j : Machine) → IsComputedFrom (computed_of limits) (plant_at x.circuit x.hour) j rest ending n
         → AllByRecursion IsFit (blocks_from x (k + 1) (rounds_of rest)))
         → AllByRecursion IsFit (blocks_from x (k + 1) (rounds_of rest))
     fit_behind (Ends end j) r rest k f go =
@@ -202,7 +205,7 @@ module _ (x : Settle) (hours : List ℕ) (more : List CircuitView) where
     fit_behind (Moves made j) r rest k f go = go j f.1
 
     pub rounds_fit : (rounds : List (Claim × List Act)) (k : ℕ) (machine : Machine)
-        → IsComputedFrom limits (plant_at x.circuit x.hour) machine rounds ending n
+        → IsComputedFrom (computed_of limits) (plant_at x.circuit x.hour) machine rounds ending n
         → k + length rounds < 2 ^ 127
         → AllByRecursion (λ (r : Round). AllByRecursion HasActNumbers r.acts) (rounds_of rounds)
         → AllByRecursion IsFit (blocks_from x k (rounds_of rounds))

@@ -8,7 +8,8 @@ use Rattle.fd_checking.specs.dss_layout.Layout.{layout_of, size_of}
 use Rattle.fd_checking.specs.fd_enclosure.Sound.{Claim, loose, uncertain}
 use Rattle.fd_checking.specs.fd_inject.declared.fault.SolveFault.TheVariants as solving
 use Rattle.fd_checking.specs.fd_queue.Machine.{Act, Machine}
-use Rattle.fd_checking.specs.fd_settle.Computed.{Ending, IsComputedFrom, ended, procedure, range, stopped, uncertified}
+use Rattle.fd_checking.specs.fd_settle.Compute.{computed_of, procedure, uncertified}
+use Rattle.fd_checking.specs.fd_settle.Computed.{Ending, IsComputedFrom, ended, range, stopped}
 use Rattle.fd_checking.specs.fd_settle.Contract.{limits_of}
 use Rattle.fd_checking.specs.fd_settle.Settle.{Open, Settled, Limited, Undecidable}
 use Rattle.fd_checking.specs.fd_certfile.Blocks.{Block, IsSized, IsWritable}
@@ -99,7 +100,7 @@ module _ (c : CircuitView) where
   ended_well hour (ended Settled) n end h e = refl
   ended_well hour (ended Limited) n end h e = absurd (let no : ⊥ = cc in no)
   ended_well hour (ended (Undecidable k u)) n end h e = absurd (let no : ⊥ = cc in no)
-  ended_well hour (stopped (range blame)) n end h e = absurd (let no : ⊥ = cc in no)
+  ended_well hour (range blame) n end h e = absurd (let no : ⊥ = cc in no)
   ended_well hour (stopped (procedure (solving.NoInverse column stop))) n end h e = absurd (let no : ⊥ = cc in no)
   ended_well hour (stopped (procedure (solving.OutOfRange place step))) n end h e = absurd (let no : ⊥ = cc in no)
   ended_well hour (stopped (procedure (solving.NotConverged place steps update))) n end h e =
@@ -122,7 +123,7 @@ module _ (c : CircuitView) where
 
     -- an hour before those
     module _ (hour : ℕ) (hours : List ℕ) (l : Kept) (rounds : List (Claim × List Act)) (n : Machine)
-        (computed : IsComputedFrom (limits_of c.options) (plant_at c hour) (begun_by c hour l).machine rounds
+        (computed : IsComputedFrom (computed_of (limits_of c.options)) (plant_at c hour) (begun_by c hour l).machine rounds
         (ended Settled) n)
         (events : List Event) (t : StandingView) (rest : HoursHold hours (kept_by l n) events t) where
       abbrev x : Settle
@@ -163,7 +164,7 @@ module _ (c : CircuitView) where
     hour_goes hour hours l made kept is well events t rest =
         let end_is : is.end ≡ settled = sym (ap (λ (s : Settle). s.end) is.settle_is) ∙ well in
         let ending : is.ending ≡ ended Settled = ended_well hour is.ending is.machine is.end is.end_is end_is in
-        let computed = subst (λ (e : Ending). IsComputedFrom (limits_of c.options) (plant_at c hour)
+        let computed = subst (λ (e : Ending). IsComputedFrom (computed_of (limits_of c.options)) (plant_at c hour)
         (begun_by c hour l).machine is.rounds e is.machine) ending is.computed in
         let made_is : hour_settle c hour (begun_by c hour l) (rounds_of is.rounds) settled is.machine.at ≡ made =
         ap (λ (e : SettleEnd). hour_settle c hour (begun_by c hour l) (rounds_of is.rounds) e is.machine.at)

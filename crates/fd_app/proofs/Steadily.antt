@@ -22,6 +22,7 @@ use Rattle.fd_checking.specs.fd_enclosure.Sound.{Claim}
 use Rattle.fd_checking.specs.fd_inject.declared.limits.Limits.{Limits}
 use Rattle.fd_checking.specs.fd_queue.Controls.{Positions}
 use Rattle.fd_checking.specs.fd_queue.Machine.{Act, Machine}
+use Rattle.fd_checking.specs.fd_settle.Compute.{computed_of}
 use Rattle.fd_checking.specs.fd_settle.Computed.{Ending, Follows, IsComputedFrom, ended}
 use Rattle.fd_checking.specs.fd_settle.Contract.{limits_of}
 use Rattle.fd_checking.specs.fd_settle.Laws.{NothingDue}
@@ -73,7 +74,7 @@ module _ (x : Settle) (hours : List ℕ) (more : List CircuitView) (limits : Lim
     → t ≡ behind_it x hours more n → rest l t)
     (at_fault : (t : Checking) → (ending ≡ ended Settled → ⊥) → rest None t) where
   abbrev Computed : Machine → List (Claim × List Act) → Type 0
-  Computed m rounds = IsComputedFrom limits (plant_at x.circuit x.hour) m rounds ending n
+  Computed m rounds = IsComputedFrom (computed_of limits) (plant_at x.circuit x.hour) m rounds ending n
 
   abbrev AlikeFrom : Machine → List (Claim × List Act) → Type 0
   AlikeFrom m rounds =
@@ -83,7 +84,7 @@ module _ (x : Settle) (hours : List ℕ) (more : List CircuitView) (limits : Lim
   SteadyFrom k rounds l t = AreSteadyFrom x k (rounds_of rounds) l rest t
 
   none_ended : (m : Machine) → Computed m [] → ending ≡ ended Settled → ⊥
-  none_ended m h e = subst (λ (q : Ending). IsComputedFrom limits (plant_at x.circuit x.hour) m [] q n) e h
+  none_ended m h e = subst (λ (q : Ending). IsComputedFrom (computed_of limits) (plant_at x.circuit x.hour) m [] q n) e h
 
   module _ (k : ℕ) (m : Machine) (r : Claim × List Act) (later : List (Claim × List Act))
       (next : (j : Machine) → Computed j later → AlikeFrom j later
@@ -159,7 +160,7 @@ module _ (c : CircuitView) (more : List CircuitView) where
 
   module _ (hour : ℕ) (hours : List ℕ) (l : Kept) (rounds : List (Claim × List Act)) (ending : Ending) (n : Machine)
       (end : SettleEnd)
-      (computed : IsComputedFrom (limits_of c.options) (plant_at c hour) (begun_by c hour l).machine rounds ending n)
+      (computed : IsComputedFrom (computed_of (limits_of c.options)) (plant_at c hour) (begun_by c hour l).machine rounds ending n)
       (end_is : IsEndBy c hour ending n end) (es : List Event)
       (later : end ≡ settled → Onward hours (kept_by l n) es) (none : (end ≡ settled → ⊥) → es ≡ []) where
     abbrev x : Settle

@@ -9,6 +9,7 @@ use Rattle.fd_settle.specs.Settle.{Moves, outcome_of}
 use Rattle.fd_settle.proofs.Computations.{one_computation}
 use Rattle.fd_settle.proofs.Going.{round_counts}
 pub use Rattle.fd_settle.proofs.Computations.{computed}
+pub use Rattle.fd_settle.proofs.Computing.{its_certificate, its_fault}
 pub use Rattle.fd_settle.proofs.Ended.{nothing_due}
 pub use Rattle.fd_settle.proofs.Histories.{history, whole}
 pub use Rattle.fd_settle.proofs.KeptRounds.{hour_can_start, none_early, solve_can_start}

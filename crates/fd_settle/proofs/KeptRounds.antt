@@ -16,7 +16,6 @@ use Rattle.fd_sample.specs.fd_capctl.CapState.{IsEarly}
 use Rattle.fd_sample.specs.fd_devices.Settings.{bank_count}
 use Rattle.fd_sample.specs.fd_elements.declared.powers.LoadPower.{LoadPower}
 use Rattle.fd_cert.specs.fd_enclosure.Sound.{Claim}
-use Rattle.fd_inject.specs.declared.limits.Limits.{Limits}
 use Rattle.fd_sample.specs.fd_queue.Controls.{Control, Positions, Regulates, Switches, is_closed, pair_at, tap_of}
 use Rattle.fd_sample.specs.fd_queue.Decisions.{Decision, Hold, steps_of, way_of}
 use Rattle.fd_sample.specs.fd_queue.Machine.{Act, Acts, AtLimit, Machine, Quiet, acts_of, after_opening, all_acted, hour_begun, moved, moved_by, new_entry, no_control, reacted, rule_of, sampled, signed_steps, step_of}
@@ -34,7 +33,7 @@ use Rattle.fd_sample.specs.Regulators.{settings_of}
 use Rattle.fd_sample.specs.declared.probe.Probe.{Probe}
 use Rattle.fd_sample.specs.declared.probe.Probe.TheVariants as probe
 use Rattle.fd_sample.proofs.CallerLemmas.{probes_kept}
-use Rattle.fd_settle.specs.Computed.{Ending, Follows, IsComputedFrom, ended, stopped}
+use Rattle.fd_settle.specs.Computed.{Answering, Ending, Follows, IsComputedFrom, ended, range, stopped}
 use Rattle.fd_settle.specs.Controls.{OpensEarly}
 use Rattle.fd_settle.specs.Kept.{IsMachineOf, KeptLaw}
 use Rattle.fd_settle.specs.KeptRounds.{CanStart, IsTimely, KeptRoundsLaw}
@@ -298,21 +297,25 @@ module _ (queue_law : QueueLaw) (own_law : OwnLaw) (tap_law : TapLaw) (away_law 
       }),
     )
 
-    rounds_kept : (limits : Limits) (m : Machine) (rounds : List (Claim × List Act)) (ending : Ending) (n : Machine)
-        → IsRunning c m → IsMachineOf c powers m → IsComputedFrom limits (plant_of c powers) m rounds ending n
-        → Rounds m rounds n
-    rounds_kept limits m [] (ended end) n h machine f = absurd f
-    rounds_kept limits m [] (stopped stop) n h machine f = record {
+    none_kept : (m n : Machine) → IsRunning c m → IsMachineOf c powers m → n ≡ m → Rounds m [] n
+    none_kept m n h machine same = record {
       positions = tt;
       acts = tt;
-      machine = subst (IsMachineOf c powers) (sym f.1) machine;
-      runs = subst (IsRunning c) (sym f.1) h;
+      machine = subst (IsMachineOf c powers) (sym same) machine;
+      runs = subst (IsRunning c) (sym same) h;
     }
-    rounds_kept limits m (r ∷ rest) ending n h machine f =
+
+    rounds_kept : (answer : Answering) (m : Machine) (rounds : List (Claim × List Act)) (ending : Ending) (n : Machine)
+        → IsRunning c m → IsMachineOf c powers m → IsComputedFrom answer (plant_of c powers) m rounds ending n
+        → Rounds m rounds n
+    rounds_kept answer m [] (ended end) n h machine f = absurd f
+    rounds_kept answer m [] (range blame) n h machine f = none_kept m n h machine f.1
+    rounds_kept answer m [] (stopped stop) n h machine f = none_kept m n h machine f.1.1
+    rounds_kept answer m (r ∷ rest) ending n h machine f =
         let o = outcome_of (setup_of c) m (look_over ps m.at r.0) in
-        let later = behind o r.1 rest ending n (λ k. IsComputedFrom limits (plant_of c powers) k rest ending n)
+        let later = behind o r.1 rest ending n (λ k. IsComputedFrom answer (plant_of c powers) k rest ending n)
         (round_runs m r.0 h machine.queue) (kept m r.0 machine) f.1.1
-        (λ k runs is more. rounds_kept limits k rest ending n runs is more) in
+        (λ k runs is more. rounds_kept answer k rest ending n runs is more) in
         record {
           positions = (machine.positions, later.1.positions);
           acts = (later.0, later.1.acts);
@@ -328,7 +331,7 @@ taken_few control_mode.Static ps n h = h
 taken_few control_mode.Time ps n h = h
 
 pub rounds_are_kept : QueueLaw → OwnLaw → TapLaw → AwayLaw → KeptLaw → KeptRoundsLaw
-rounds_are_kept queue_law own_law tap_law away_law kept_law c powers m limits rounds ending n ready circuit start computed =
+rounds_are_kept queue_law own_law tap_law away_law kept_law c powers m answer rounds ending n ready circuit start computed =
     let fit = probes_kept c ready circuit.elements_in_range circuit.well_formed.entries in
     let mode = c.options.controlmode in
     let all = probes_of c.elements in
@@ -337,7 +340,7 @@ rounds_are_kept queue_law own_law tap_law away_law kept_law c powers m limits ro
     let kept = rounds_kept queue_law own_law tap_law away_law c
     (all_taken (IsProbe (size_of (layout_of c.elements))) mode all fit.places) (all_taken HasTimes mode all fit.times)
     (omega (arith, few, most)) powers
-    (λ m y h. kept_law c powers m y ready circuit.elements_in_range circuit.well_formed.entries h) limits
+    (λ m y h. kept_law c powers m y ready circuit.elements_in_range circuit.well_formed.entries h) answer
     m rounds ending n
     (record { now = start.now; each = start.each; early = start.early; timely = start.timely })
     (record { positions = start.positions; queue = start.queue }) computed in

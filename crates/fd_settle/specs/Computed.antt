@@ -1,49 +1,31 @@
 -- What a settle comes to where its states are computed: its rounds, how it ends, and what it leaves.
-use Rattle.std.specs.Prelude.{◌≡◌, ◌≤◌, ℤ, List, [], ◌∷◌, map, Some, None, Result, Ok, Err}
+use Rattle.std.specs.Prelude.{◌≡◌, ◌≤◌, List, [], ◌∷◌, map, Some, None, Result, Ok, Err}
 use Rattle.fd_sample.specs.dss_model.declared.command.Blame.{Blame}
 use Rattle.fd_cert.specs.Claims.{claim_in}
 use Rattle.fd_cert.specs.declared.fault.CertFault.TheVariants as cert
-use Rattle.fd_cert.specs.fd_enclosure.Sound.{Claim, Refusal, certificate_of, loose, uncertain}
-use Rattle.fd_inject.specs.Procedure.{solution_of}
+use Rattle.fd_cert.specs.fd_enclosure.Sound.{Claim, loose, uncertain}
+use Rattle.fd_inject.specs.fd_pattern.Views.{NetworkView}
 use Rattle.fd_inject.specs.Faults.{UnlessMemory}
-use Rattle.fd_inject.specs.declared.fault.SolveFault.{SolveFault}
-use Rattle.fd_inject.specs.declared.limits.Limits.{Limits}
 use Rattle.fd_sample.specs.fd_queue.Machine.{Machine, Act}
 use Rattle.fd_settle.specs.declared.compute.ComputeFault.{ComputeFault}
 use Rattle.fd_settle.specs.declared.compute.ComputeFault.TheVariants as compute
 use Rattle.fd_settle.specs.declared.fault.SettleFault.{SettleFault}
 use Rattle.fd_settle.specs.declared.fault.SettleFault.TheVariants as fault
 use Rattle.fd_settle.specs.declared.round.Round.{Round}
-use Rattle.fd_settle.specs.Compute.{IsComputed}
+pub use Rattle.fd_settle.specs.Compute.{Stop, procedure, uncertified}
 use Rattle.fd_settle.specs.Plant.{Plant}
 use Rattle.fd_settle.specs.Rounds.{seen}
 use Rattle.fd_settle.specs.Settle.{End, Settled, Limited, Undecidable, Outcome, Ends, Moves, outcome_of}
 
--- why a solve gives no certified state: the network is out of range, the procedure gives no point, or its point has no
--- certificate
-pub data Stop : Type 0 where
-  range : Blame → Stop
-  procedure : SolveFault → Stop
-  uncertified : Refusal → Stop
-
--- how a settle ends
+-- how a settle ends; a network that is out of range isn't solved
 pub data Ending : Type 0 where
   ended : End → Ending
+  range : Blame → Ending
   stopped : Stop → Ending
 
--- ---- a solve that gives none
-
-pub record HasNoCertificate (limits : Limits) (p : Plant) (m : Machine) (r : Refusal) : Type 0 where
-  pub in_range : p.blame m.at ≡ None
-  pub centre : List ℤ
-  pub inverse : List (List ℤ)
-  pub point : solution_of (p.network m.at) limits ≡ Ok (centre, inverse)
-  pub refusal : certificate_of (p.network m.at) centre inverse ≡ Err r
-
-abbrev pub IsStopped : Limits → Plant → Machine → Stop → Type 0
-IsStopped limits p m (range blame) = p.blame m.at ≡ Some blame
-IsStopped limits p m (procedure f) = (p.blame m.at ≡ None) × (solution_of (p.network m.at) limits ≡ Err f)
-IsStopped limits p m (uncertified r) = HasNoCertificate limits p m r
+-- a way to answer each network, with a certified state or with what stops it
+abbrev pub Answering : Type 0
+Answering = NetworkView → Result Claim Stop
 
 -- ---- the rounds, each a certified state with its acts
 
@@ -53,12 +35,13 @@ Follows (Ends end k) acts rest ending n P = (acts ≡ []) × ((rest ≡ []) × (
 Follows (Moves made k) acts rest ending n P = (acts ≡ made) × P k
 
 -- from a machine on: these rounds, this ending, and the machine that is left
-abbrev pub IsComputedFrom : Limits → Plant → Machine → List (Claim × List Act) → Ending → Machine → Type 0
-IsComputedFrom limits p m [] (ended end) n = ⊥
-IsComputedFrom limits p m [] (stopped stop) n = IsStopped limits p m stop × (n ≡ m)
-IsComputedFrom limits p m (r ∷ rest) ending n =
-    (p.blame m.at ≡ None) × (IsComputed limits (p.network m.at) r.0
-    × Follows (outcome_of p.setup m (p.look m.at r.0)) r.1 rest ending n (λ k. IsComputedFrom limits p k rest ending n))
+abbrev pub IsComputedFrom : Answering → Plant → Machine → List (Claim × List Act) → Ending → Machine → Type 0
+IsComputedFrom answer p m [] (ended end) n = ⊥
+IsComputedFrom answer p m [] (range blame) n = (p.blame m.at ≡ Some blame) × (n ≡ m)
+IsComputedFrom answer p m [] (stopped stop) n = (p.blame m.at ≡ None) × ((answer (p.network m.at) ≡ Err stop) × (n ≡ m))
+IsComputedFrom answer p m (r ∷ rest) ending n =
+    (p.blame m.at ≡ None) × ((answer (p.network m.at) ≡ Ok r.0)
+    × Follows (outcome_of p.setup m (p.look m.at r.0)) r.1 rest ending n (λ k. IsComputedFrom answer p k rest ending n))
 
 -- the rounds that the code made
 abbrev pub computed_in : List Round → List (Claim × List Act)
@@ -76,7 +59,7 @@ abbrev pub EndsSo : {T : Type 0} → Result T (SettleFault ComputeFault) → (En
 EndsSo (Ok t) P = P (ended Settled)
 EndsSo (Err (fault.Undecided control low high edge)) P = P (ended (Undecidable control (record { low = low; high = high; edge = edge })))
 EndsSo (Err (fault.ControlLimit acts)) P = P (ended Limited)
-EndsSo (Err (fault.Range blame)) P = P (stopped (range blame))
+EndsSo (Err (fault.Range blame)) P = P (range blame)
 EndsSo (Err (fault.Solver f)) P = EndsBySolver f P
 EndsSo (Err fault.NoMemory) P = Unit {0}
 
@@ -87,13 +70,14 @@ pub record Computation : Type 0 where
   pub ending : Ending
   pub machine : Machine
 
-abbrev pub IsComputation : Limits → Plant → Machine → Computation → Type 0
-IsComputation limits p m c = IsComputedFrom limits p m c.rounds c.ending c.machine
+abbrev pub IsComputation : Answering → Plant → Machine → Computation → Type 0
+IsComputation answer p m c = IsComputedFrom answer p m c.rounds c.ending c.machine
 
-pub record HasOneComputation (limits : Limits) (p : Plant) (m : Machine) : Type 0 where
+pub record HasOneComputation (answer : Answering) (p : Plant) (m : Machine) : Type 0 where
   pub some : Computation
-  pub is : IsComputation limits p m some
-  pub only : (c : Computation) → IsComputation limits p m c → c ≡ some
+  pub is : IsComputation answer p m some
+  pub only : (c : Computation) → IsComputation answer p m c → c ≡ some
 
+-- whatever the way to answer is
 abbrev pub ComputationLaw : Type 0
-ComputationLaw = (limits : Limits) (p : Plant) (m : Machine) → m.made ≤ p.setup.limit → HasOneComputation limits p m
+ComputationLaw = (answer : Answering) (p : Plant) (m : Machine) → m.made ≤ p.setup.limit → HasOneComputation answer p m

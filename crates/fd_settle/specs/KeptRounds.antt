@@ -9,12 +9,11 @@ use Rattle.fd_sample.specs.fd_capctl.CapState.{IsEarly}
 use Rattle.fd_sample.specs.fd_devices.Settings.{bank_count}
 use Rattle.fd_sample.specs.fd_elements.declared.powers.LoadPower.{LoadPower}
 use Rattle.fd_cert.specs.fd_enclosure.Sound.{Claim}
-use Rattle.fd_inject.specs.declared.limits.Limits.{Limits}
 use Rattle.fd_sample.specs.fd_queue.Machine.{Act, Machine}
 use Rattle.fd_sample.specs.fd_queue.MachineLaws.{KeepsQueue}
 use Rattle.fd_sample.specs.fd_queue.declared.entry.Entry.{Entry}
 use Rattle.fd_settle.specs.Controls.{OpensEarly}
-use Rattle.fd_settle.specs.Computed.{Ending, IsComputedFrom}
+use Rattle.fd_settle.specs.Computed.{Answering, Ending, IsComputedFrom}
 use Rattle.fd_settle.specs.Numbers.{AreActNumbers}
 use Rattle.fd_settle.specs.Plant.{plant_of, setup_of}
 use Rattle.fd_settle.specs.Rounds.{AtEach}
@@ -44,8 +43,8 @@ pub record AreKept (c : CircuitView) (powers : List LoadPower) (m : Machine) (ro
 
 abbrev pub KeptRoundsLaw : Type 0
 KeptRoundsLaw =
-    (c : CircuitView) (powers : List LoadPower) (m : Machine) (limits : Limits)
+    (c : CircuitView) (powers : List LoadPower) (m : Machine) (answer : Answering)
     (rounds : List (Claim × List Act)) (ending : Ending) (n : Machine) → HasPassed c → IsWithinLimits c.elements c.options
     → CanStart c powers m
-    → IsComputedFrom limits (plant_of c powers) m rounds ending n
+    → IsComputedFrom answer (plant_of c powers) m rounds ending n
     → AreKept c powers m rounds n

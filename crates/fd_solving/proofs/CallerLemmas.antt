@@ -13,7 +13,7 @@ pub use Rattle.fd_solving.proofs.Weights.{Reaches, Takes, reached_takes, verb_ta
 pub use Rattle.dss_commands.proofs.CallerLemmas as dss_commands
 pub use Rattle.fd_daily.proofs.CallerLemmas.fd_enclosure as fd_enclosure
 pub use Rattle.fd_daily.proofs.CallerLemmas.fd_equations as fd_equations
-pub use Rattle.fd_daily.proofs.CallerLemmas.fd_settle.{nothing_due}
+pub use Rattle.fd_daily.proofs.CallerLemmas.fd_settle.{its_certificate, nothing_due}
 pub use Rattle.fd_pages.proofs.CallerLemmas.{all_last, first_round, of_first_round}
 pub use Rattle.fd_pages.proofs.CallerLemmas.fd_outside as fd_outside
 pub use Rattle.fd_pages.proofs.CallerLemmas.fd_certfile as fd_certfile

@@ -8,9 +8,9 @@ use Rattle.fd_daily.specs.fd_inject.declared.limits.Limits.{Limits}
 use Rattle.fd_daily.specs.fd_pattern.Views.{NetworkView}
 use Rattle.fd_daily.specs.fd_queue.Machine.{Act, Machine, Setup, Step, Quiet, AtLimit, Acts, step_of}
 use Rattle.fd_daily.specs.fd_queue.MachineLaws.{IsCounted}
-use Rattle.fd_daily.proofs.CallerLemmas.fd_settle.{round_counted}
-use Rattle.fd_daily.specs.fd_settle.Computed.{Ending, Follows, IsComputedFrom, ended, procedure, range, stopped}
-use Rattle.fd_daily.specs.fd_settle.Computed.{uncertified}
+use Rattle.fd_daily.proofs.CallerLemmas.fd_settle.{its_fault, round_counted}
+use Rattle.fd_daily.specs.fd_settle.Compute.{computed_of, procedure, uncertified}
+use Rattle.fd_daily.specs.fd_settle.Computed.{Answering, Ending, Follows, IsComputedFrom, ended, range, stopped}
 use Rattle.fd_daily.specs.fd_settle.Plant.{Plant}
 use Rattle.fd_daily.specs.fd_settle.Sampling.{Sampling, Decided, Unclear}
 use Rattle.fd_daily.specs.fd_settle.Settle.{Open, Outcome, Ends, Moves, outcome_after, outcome_of}
@@ -51,25 +51,26 @@ told_behind (Moves made k) acts rest ending n P told go h = go k h.1
 
 pub is_told : (limits : Limits) (p : Plant) (m : Machine) (rounds : List (Claim × List Act)) (ending : Ending)
     (n : Machine)
-    → IsComputedFrom limits p m rounds ending n → IsTold ending
+    → IsComputedFrom (computed_of limits) p m rounds ending n → IsTold ending
 is_told limits p m [] (ended end) n h = absurd h
-is_told limits p m [] (stopped (range blame)) n h = tt
-is_told limits p m [] (stopped (procedure f)) n h = told_of_procedure (p.network m.at) limits f h.0.1
+is_told limits p m [] (range blame) n h = tt
+is_told limits p m [] (stopped (procedure f)) n h =
+    told_of_procedure (p.network m.at) limits f (its_fault limits (p.network m.at) f h.1.0)
 is_told limits p m [] (stopped (uncertified r)) n h = tt
 is_told limits p m (r ∷ rest) ending n h =
     told_behind (outcome_of p.setup m (p.look m.at r.0)) r.1 rest ending n
-    (λ k. IsComputedFrom limits p k rest ending n) (ended_by p.setup m (p.look m.at r.0))
+    (λ k. IsComputedFrom (computed_of limits) p k rest ending n) (ended_by p.setup m (p.look m.at r.0))
     (λ k later. is_told limits p k rest ending n later) h.1.1
 
 -- ---- how many rounds there are
 
-module _ (limits : Limits) (p : Plant) where
+module _ (answer : Answering) (p : Plant) where
   few_behind : (m : Machine) (o : Outcome) (acts : List Act) (rest : List (Claim × List Act)) (ending : Ending)
       (n : Machine)
       → ((made : List Act) (k : Machine) → o ≡ Moves made k → IsCounted p.setup m k) → m.made ≤ p.setup.limit →
-      ((k : Machine) → k.made ≤ p.setup.limit → IsComputedFrom limits p k rest ending n
+      ((k : Machine) → k.made ≤ p.setup.limit → IsComputedFrom answer p k rest ending n
       → length rest + k.made ≤ p.setup.limit + 1) →
-      Follows o acts rest ending n (λ k. IsComputedFrom limits p k rest ending n)
+      Follows o acts rest ending n (λ k. IsComputedFrom answer p k rest ending n)
       → length rest + (m.made + 1) ≤ p.setup.limit + 1
   few_behind m (Ends end k) acts rest ending n counted within go h = omega (arith, within, ap length h.1.0)
   few_behind m (Moves made k) acts rest ending n counted within go h =
@@ -80,7 +81,7 @@ module _ (limits : Limits) (p : Plant) where
       omega (arith, later, more)
 
   pub few_rounds : (m : Machine) (rounds : List (Claim × List Act)) (ending : Ending) (n : Machine)
-      → m.made ≤ p.setup.limit → IsComputedFrom limits p m rounds ending n → length rounds + m.made ≤ p.setup.limit + 1
+      → m.made ≤ p.setup.limit → IsComputedFrom answer p m rounds ending n → length rounds + m.made ≤ p.setup.limit + 1
   few_rounds m [] ending n within h = omega (arith, within)
   few_rounds m (r ∷ rest) ending n within h =
       let behind = few_behind m (outcome_of p.setup m (p.look m.at r.0)) r.1 rest ending n

@@ -263,7 +263,7 @@ module _ (style : Style) (c : CircuitView) (first : List ℕ) (l : Kept) {S : Ty
         let nothing : settle_calls style b none ≡ [] = no_calls style b none (silent none) (unshown none f refl refl) in
         way_failed hour left k now b t way none (kept_by k m) (record {
           rounds = [];
-          ending = stopped (range blame);
+          ending = range blame;
           machine = m;
           computed = (ap (λ (at : Positions). (plant_at c hour).blame at) (begun_at c hour k.machine) ∙ here, refl);
           end = failed f;

@@ -20,7 +20,8 @@ use Rattle.fd_daily.specs.fd_settings.Hours.{hour_powers}
 use Rattle.fd_daily.specs.fd_elements.declared.powers.LoadPower.{LoadPower}
 use Rattle.fd_daily.specs.fd_queue.Machine.{Act, Machine}
 use Rattle.fd_pages.specs.fd_report.Solutions.{IsOfSize}
-use Rattle.fd_daily.specs.fd_settle.Compute.{ComputeGives, IsPlaced}
+use Rattle.fd_daily.specs.fd_settle.Compute.{ComputeGives, IsPlaced, computed_of}
+use Rattle.fd_daily.proofs.CallerLemmas.fd_settle.{its_certificate}
 use Rattle.fd_daily.specs.fd_settle.Computed.{Ending, EndsBySolver, EndsSo, Follows, IsComputedFrom, computed_in, ended}
 use Rattle.fd_daily.specs.fd_settle.Contract.{CallsAs, EndsAs, limits_of}
 use Rattle.fd_daily.specs.fd_settle.Plant.{Plant, network_at, plant_of}
@@ -63,7 +64,7 @@ HasOwnInverse r = IsByInverse (support_in r.certified.value.support)
 
 module _ (limits : Limits) (p : Plant) where
   abbrev Computed : Machine → List Made → Ending → Machine → Type 0
-  Computed m rs ending n = IsComputedFrom limits p m (computed_in rs) ending n
+  Computed m rs ending n = IsComputedFrom (computed_of limits) p m (computed_in rs) ending n
 
   none_left : (rs : List Made) → computed_in rs ≡ [] → AllByRecursion HasOwnInverse rs
   none_left [] e = tt
@@ -79,7 +80,8 @@ module _ (limits : Limits) (p : Plant) where
       → AllByRecursion HasOwnInverse rs
   all_inverses m [] ending n h = tt
   all_inverses m (r ∷ rs) ending n h = (
-    is_by_inverse (p.network m.at) (claim_in r.certified.value) h.1.0.certificate,
+    is_by_inverse (p.network m.at) (claim_in r.certified.value)
+        (its_certificate limits (p.network m.at) (claim_in r.certified.value) h.1.0).certificate,
     inverses_behind (outcome_of p.setup m (p.look m.at (claim_in r.certified.value))) (map seen r.acts.items) rs ending n
         (λ k. all_inverses k rs ending n) h.1.1,
   )
@@ -163,7 +165,7 @@ pub record IsMade (c : CircuitView) (powers : List LoadPower) (m : Machine) (rs 
   pub ends : EndsAs (plant_of c powers) result (settled (plant_of c powers) m rs).end
       (settled (plant_of c powers) m rs).machine
   pub computed : EndsSo result (λ ending.
-      IsComputedFrom (limits_of c.options) (plant_of c powers) m (computed_in rs) ending
+      IsComputedFrom (computed_of (limits_of c.options)) (plant_of c powers) m (computed_in rs) ending
       (settled (plant_of c powers) m rs).machine)
   pub sound : AtEach (IsSoundAt c powers) (plant_of c powers) m (claims_in rs)
   pub positions : ArePositions c powers k.machine.at
@@ -183,12 +185,12 @@ module _ (c : CircuitView) (hour : ℕ) (l : Kept) (rs : List Made) (k : Kept) (
   MadeHere result = IsMade c (hour_powers c.elements hour) first rs result k
 
   abbrev EndsHere : Ending → Type 0
-  EndsHere ending = IsComputedFrom (limits_of c.options) (plant_at c hour) first (computed_in rs) ending last
+  EndsHere ending = IsComputedFrom (computed_of (limits_of c.options)) (plant_at c hour) first (computed_in rs) ending last
 
   few : (ending : Ending) → EndsHere ending → length rs < 2 ^ 32
   few ending computed =
       let within : length (computed_in rs) + first.made ≤ c.options.maxcontroliter + 1 =
-      few_rounds (limits_of c.options) (plant_at c hour) first (computed_in rs) ending last
+      few_rounds (computed_of (limits_of c.options)) (plant_at c hour) first (computed_in rs) ending last
       (omega (arith, begun_made c hour l.machine)) computed in
       let as_computed : Made → Claim × List Act = λ r. (claim_in r.certified.value, map seen r.acts.items) in
       omega (arith, within, most, length-map rs as_computed)

@@ -29,7 +29,8 @@ use Rattle.fd_daily.specs.fd_queue.Controls.{Positions}
 use Rattle.fd_pages.specs.fd_report.Enclosed.{IsSizeBetween}
 use Rattle.fd_pages.specs.fd_report.Solutions.{IsOfSize, solution_of}
 use Rattle.fd_pages.proofs.CallerLemmas.fd_report.{sizes}
-use Rattle.fd_daily.specs.fd_settle.Compute.{IsComputed}
+use Rattle.fd_daily.specs.fd_settle.Compute.{IsCertificate, IsComputed}
+use Rattle.fd_daily.proofs.CallerLemmas.fd_settle.{its_certificate}
 use Rattle.fd_daily.specs.fd_settle.Contract.{limits_of}
 use Rattle.fd_daily.specs.fd_settle.Plant.{network_at}
 use Rattle.fd_daily.specs.fd_settle.Start.{IsSoundAt}
@@ -181,8 +182,11 @@ module _ (c : CircuitView) (hour : ℕ) (at : Positions) (m : Claim)
       })
 
   module _ (computed : IsComputed (limits_of c.options) (hour_network c hour at) m) where
+    parts : IsCertificate (limits_of c.options) (hour_network c hour at) m
+    parts = its_certificate (limits_of c.options) (hour_network c hour at) m computed
+
     what : m ≡ claim_of (hour_network c hour at) m.centre (inverse_in m.support)
-    what = sym (claim_is (hour_network c hour at) m.centre (inverse_in m.support) m computed.certificate)
+    what = sym (claim_is (hour_network c hour at) m.centre (inverse_in m.support) m parts.certificate)
 
     own_mismatch : (l : ℕ) → l < (hour_network c hour at).size
         → number_at m.mismatches l ≡ mismatch_at (hour_network c hour at) m.centre l
@@ -247,8 +251,8 @@ module _ (c : CircuitView) (hour : ℕ) (at : Positions) (m : Claim)
 
     pub is_solution : EnclosureLaw → LinearLaw → TieLaw → BallLaw → IsSolution c hour at m
     is_solution law linear tie ball = record {
-      state = computed.point;
-      certificate = computed.certificate;
+      state = parts.point;
+      certificate = parts.certificate;
       sound = here.sound;
       meets = meets_round law;
       encloses = others law;

@@ -20,8 +20,8 @@ use Rattle.fd_daily.specs.fd_enclosure.Sound.{Claim, inverse_in}
 use Rattle.fd_daily.specs.fd_enclosure.Ties.{BallLaw, TieLaw}
 use Rattle.fd_daily.specs.fd_queue.Controls.{Positions}
 use Rattle.fd_daily.specs.fd_queue.Machine.{Act, Machine}
-use Rattle.fd_daily.proofs.CallerLemmas.fd_settle.{hour_can_start, none_early, solve_can_start}
-use Rattle.fd_daily.specs.fd_settle.Compute.{IsComputed}
+use Rattle.fd_daily.proofs.CallerLemmas.fd_settle.{hour_can_start, its_certificate, none_early, solve_can_start}
+use Rattle.fd_daily.specs.fd_settle.Compute.{IsComputed, computed_of}
 use Rattle.fd_daily.specs.fd_settle.Computed.{Ending, Follows, IsComputedFrom}
 use Rattle.fd_daily.specs.fd_settle.Contract.{limits_of}
 use Rattle.fd_daily.specs.fd_settle.KeptRounds.{AreKept, CanStart, KeptRoundsLaw}
@@ -90,7 +90,7 @@ module _ (laws : Laws) (c : CircuitView) (ready : HasPassed c) (circuit : IsWith
   plant = plant_at c hour
 
   abbrev Computed : Machine → List (Claim × List Act) → Ending → Machine → Type 0
-  Computed m rounds ending n = IsComputedFrom (limits_of c.options) plant m rounds ending n
+  Computed m rounds ending n = IsComputedFrom (computed_of (limits_of c.options)) plant m rounds ending n
 
   -- a state that is computed at positions of the circuit is sound
   sound_at : (at : Positions) (m : Claim) → ArePositions c powers at → blame_at c powers at ≡ None
@@ -100,13 +100,14 @@ module _ (laws : Laws) (c : CircuitView) (ready : HasPassed c) (circuit : IsWith
       let modest = laws.modest c.elements hour circuit.elements_in_range in
       let of = laws.network c (settings_at powers at) ready circuit positions.counts positions.taps modest none in
       let v = hour_network c hour at in
-      let there = solution_point v (limits_of c.options) m.centre (inverse_in m.support) computed.point in
+      let parts = its_certificate (limits_of c.options) v m computed in
+      let there = solution_point v (limits_of c.options) m.centre (inverse_in m.support) parts.point in
       record {
         positions = positions;
         agrees = of.agrees;
         network = of.network;
         sound = laws.certificate v m.centre (inverse_in m.support) m of.network there.point there.square.inverse
-            computed.certificate;
+            parts.certificate;
       }
 
   -- what holds of each round, by what holds of it before and how it is computed
@@ -143,7 +144,7 @@ module _ (laws : Laws) (c : CircuitView) (ready : HasPassed c) (circuit : IsWith
 
     kept_here : AreKept c powers first is.rounds is.machine
     kept_here =
-        laws.kept c powers first (limits_of c.options) is.rounds is.ending is.machine ready circuit
+        laws.kept c powers first (computed_of (limits_of c.options)) is.rounds is.ending is.machine ready circuit
         start is.computed
 
     sound : AtEach (IsSoundAt c powers) plant first claims
@@ -162,7 +163,7 @@ module _ (laws : Laws) (c : CircuitView) (ready : HasPassed c) (circuit : IsWith
     few : length (rounds_of is.rounds) < 2 ^ 32
     few =
         let most : length is.rounds + first.made ≤ c.options.maxcontroliter + 1 =
-        few_rounds (limits_of c.options) plant first is.rounds is.ending is.machine
+        few_rounds (computed_of (limits_of c.options)) plant first is.rounds is.ending is.machine
         (omega (arith, begun_made c hour l.machine)) is.computed in
         let limit = circuit.options_in_range.maxcontroliter in
         omega (arith, most, limit, length-map is.rounds (λ r. round_of r.0 r.1))

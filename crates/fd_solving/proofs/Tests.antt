@@ -26,8 +26,8 @@ use Rattle.fd_daily.specs.fd_queue.Controls.{Positions}
 use Rattle.fd_daily.specs.fd_queue.Machine.{Machine}
 use Rattle.fd_pages.specs.fd_report.declared.faults.Cause.TheVariants as cause
 use Rattle.fd_pages.specs.fd_report.declared.faults.Fault.TheVariants as run
-use Rattle.fd_daily.specs.fd_settle.Computed.{Computation, Ending, HasOneComputation, ended, procedure, range, stopped}
-use Rattle.fd_daily.specs.fd_settle.Computed.{uncertified}
+use Rattle.fd_daily.specs.fd_settle.Compute.{computed_of, procedure, uncertified}
+use Rattle.fd_daily.specs.fd_settle.Computed.{Computation, Ending, HasOneComputation, ended, range, stopped}
 use Rattle.fd_daily.specs.fd_settle.Contract.{limits_of}
 use Rattle.fd_daily.proofs.CallerLemmas.fd_settle.{has_one_computation}
 use Rattle.fd_daily.specs.fd_settle.Settle.{Open, Settled, Limited, Undecidable}
@@ -206,7 +206,7 @@ one_end c hour (ended Open) n told = absurd told
 one_end c hour (ended Settled) n told = exactly_this settled
 one_end c hour (ended Limited) n told = exactly_this (failed (run.ControlLimit n.made))
 one_end c hour (ended (Undecidable k u)) n told = exactly_this (failed (undecided_at c k u))
-one_end c hour (stopped (range blame)) n told = exactly_this (failed (run.Script blame.place (cause.Model blame.cause)))
+one_end c hour (range blame) n told = exactly_this (failed (run.Script blame.place (cause.Model blame.cause)))
 one_end c hour (stopped (procedure (solving.NoInverse column stop))) n told =
     exactly_this (failed (run.NoInverse (unknown_of c column) stop))
 one_end c hour (stopped (procedure (solving.OutOfRange place k))) n told =
@@ -232,7 +232,7 @@ one_behind x (failed f) rest one = exactly_this (ends (settle x ∷ []) f)
 one_behind x (without_certificate r f) rest one = exactly_this (ends (settle x ∷ []) f)
 
 module _ (c : CircuitView) (hour : ℕ) (l : Kept)
-    (one : HasOneComputation (limits_of c.options) (plant_at c hour) (begun_by c hour l).machine) where
+    (one : HasOneComputation (computed_of (limits_of c.options)) (plant_at c hour) (begun_by c hour l).machine) where
   abbrev only_end : ExactlyOne (IsEndBy c hour one.some.ending one.some.machine)
   only_end =
       one_end c hour one.some.ending one.some.machine (is_told (limits_of c.options) (plant_at c hour)
@@ -294,7 +294,7 @@ pub one_hours : (c : CircuitView) (hours : List ℕ) (l : Kept) → ExactlyOne (
 one_hours c [] l = exactly_this (goes (waits c l.machine.queue ∷ []) (standing c l.machine.at l.settled))
 one_hours c (hour ∷ hours) l =
     one_hour c hour l
-    (has_one_computation (limits_of c.options) (plant_at c hour) (begun_by c hour l).machine
+    (has_one_computation (computed_of (limits_of c.options)) (plant_at c hour) (begun_by c hour l).machine
     (omega (arith, begun_made c hour l.machine)))
     (λ k step. IsHoursStep c hours k step) (λ k. one_hours c hours k)
 

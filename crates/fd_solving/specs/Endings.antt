@@ -15,8 +15,8 @@ use Rattle.fd_daily.specs.fd_settle.declared.compute.ComputeFault.{ComputeFault}
 use Rattle.fd_daily.specs.fd_settle.declared.compute.ComputeFault.TheVariants as compute
 use Rattle.fd_daily.specs.fd_settle.declared.fault.SettleFault.{SettleFault}
 use Rattle.fd_daily.specs.fd_settle.declared.fault.SettleFault.TheVariants as fault
-use Rattle.fd_daily.specs.fd_settle.Compute.{IsPlaced, IsUncertified}
-use Rattle.fd_daily.specs.fd_settle.Computed.{Ending, ended, procedure, range, stopped, uncertified}
+use Rattle.fd_daily.specs.fd_settle.Compute.{IsPlaced, IsUncertified, procedure, uncertified}
+use Rattle.fd_daily.specs.fd_settle.Computed.{Ending, ended, range, stopped}
 use Rattle.fd_daily.specs.fd_settle.Contract.{limits_of}
 use Rattle.fd_daily.specs.fd_settle.Settle.{Limited, Undecidable}
 use Rattle.fd_daily.specs.Underway.{plant_at}
@@ -39,7 +39,7 @@ ending_by_solver (compute.Cert (cert.NotCertified place sum tried)) = Some (stop
 ending_by_solver (compute.Cert cert.NoMemory) = None
 
 abbrev pub ending_of : SettleFault ComputeFault → Option Ending
-ending_of (fault.Range blame) = Some (stopped (range blame))
+ending_of (fault.Range blame) = Some (range blame)
 ending_of (fault.Solver f) = ending_by_solver f
 ending_of (fault.Undecided control low high edge) =
     Some (ended (Undecidable control (record { low = low; high = high; edge = edge })))

@@ -20,8 +20,9 @@ use Rattle.fd_daily.specs.fd_inject.declared.fault.SolveFault.TheVariants as pro
 use Rattle.fd_daily.specs.fd_inject.declared.limits.Limits.{Limits}
 use Rattle.fd_daily.specs.fd_queue.Machine.{Machine, Act}
 use Rattle.fd_daily.specs.fd_sample.Decided.{Undecided}
-use Rattle.fd_daily.specs.fd_settle.Computed.{Ending, ended, stopped, IsComputedFrom, range, uncertified}
-use Rattle.fd_daily.specs.fd_settle.Computed as computed
+use Rattle.fd_daily.specs.fd_settle.Compute.{computed_of, uncertified}
+use Rattle.fd_daily.specs.fd_settle.Compute as computed
+use Rattle.fd_daily.specs.fd_settle.Computed.{Ending, ended, stopped, IsComputedFrom, range}
 use Rattle.fd_daily.specs.fd_settle.Contract.{limits_of}
 use Rattle.fd_daily.specs.fd_settle.Settle.{Open, Settled, Limited, Undecidable}
 use Rattle.fd_pages.specs.fd_report.Names.{name_at}
@@ -102,7 +103,7 @@ IsEndBy c hour (ended Open) n end = ⊥
 IsEndBy c hour (ended Settled) n end = end ≡ settled
 IsEndBy c hour (ended Limited) n end = end ≡ failed (fault.ControlLimit n.made)
 IsEndBy c hour (ended (Undecidable k u)) n end = end ≡ failed (undecided_at c k u)
-IsEndBy c hour (stopped (range blame)) n end = end ≡ failed (fault.Script blame.place (cause.Model blame.cause))
+IsEndBy c hour (range blame) n end = end ≡ failed (fault.Script blame.place (cause.Model blame.cause))
 IsEndBy c hour (stopped (computed.procedure (procedure.NoInverse column stop))) n end =
     end ≡ failed (fault.NoInverse (unknown_of c column) stop)
 IsEndBy c hour (stopped (computed.procedure (procedure.OutOfRange place step))) n end =
@@ -127,7 +128,7 @@ pub record IsHour (c : CircuitView) (hour : ℕ) (l : Kept) (x : Settle) (k : Ke
   pub rounds : List (Claim × List Act)
   pub ending : Ending
   pub machine : Machine
-  pub computed : IsComputedFrom (limits_of c.options) (plant_at c hour)
+  pub computed : IsComputedFrom (computed_of (limits_of c.options)) (plant_at c hour)
       (begun_by c hour l).machine rounds ending machine
   pub end : SettleEnd
   pub end_is : IsEndBy c hour ending machine end

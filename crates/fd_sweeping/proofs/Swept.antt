@@ -33,6 +33,7 @@ use Rattle.fd_solving.specs.fd_daily.Hours.{time_of}
 use Rattle.fd_solving.specs.fd_daily.Underway.{no_positions, plant_at}
 use Rattle.fd_solving.specs.fd_enclosure.Boxes.{IsInPart}
 use Rattle.fd_solving.specs.fd_enclosure.Sound.{Claim, HasInverse, parts_of, loose, number_at, uncertain}
+use Rattle.fd_solving.proofs.CallerLemmas.fd_enclosure.{is_by_inverse, sound_inverse}
 use Rattle.fd_solving.specs.fd_network.Laws.{NetworkLaw}
 use Rattle.fd_solving.specs.fd_outcome.Events as event
 use Rattle.fd_solving.specs.fd_outcome.Events.{AllSettles, Event, History, IfSettle, asked, row, settle, swept, waits}
@@ -56,7 +57,8 @@ use Rattle.fd_solving.specs.fd_report.declared.ladders.Ladder.TheVariants as lad
 use Rattle.fd_solving.specs.fd_settings.Hours.{HoursLaw, hour_powers}
 use Rattle.fd_solving.specs.fd_settings.Modest.{ModestLaw}
 use Rattle.fd_solving.specs.fd_settings.Positions.{NextLaw}
-use Rattle.fd_solving.specs.fd_settle.Computed.{Ending, IsComputedFrom, ended, procedure, range, stopped, uncertified}
+use Rattle.fd_solving.specs.fd_settle.Compute.{computed_of, procedure, uncertified}
+use Rattle.fd_solving.specs.fd_settle.Computed.{Ending, IsComputedFrom, ended, range, stopped}
 use Rattle.fd_solving.specs.fd_daily.fd_inject.declared.fault.SolveFault.TheVariants as fault
 use Rattle.fd_solving.specs.fd_devices.Settings.{AreSettings}
 use Rattle.fd_solving.specs.fd_settle.Contract.{limits_of}
@@ -226,10 +228,10 @@ module _ (laws : Laws) (c : CircuitView) (ready : HasPassed c) (within : IsWithi
 
     -- a settle of no round didn't end well
     ended_ill : (ending : Ending) (end : SettleEnd)
-        → IsComputedFrom (limits_of c.options) (plant_at c 0) (begun_by c 0 first).machine [] ending is.machine
+        → IsComputedFrom (computed_of (limits_of c.options)) (plant_at c 0) (begun_by c 0 first).machine [] ending is.machine
         → IsEndBy c 0 ending is.machine end → end ≡ settled → ⊥
     ended_ill (ended e) end computed by well = computed
-    ended_ill (stopped (range b)) end computed by well = let no = sym by ∙ well in cc no
+    ended_ill (range b) end computed by well = let no = sym by ∙ well in cc no
     ended_ill (stopped (procedure (fault.NoInverse column stop))) end computed by well = let no = sym by ∙ well in cc no
     ended_ill (stopped (procedure (fault.OutOfRange place step))) end computed by well = let no = sym by ∙ well in cc no
     ended_ill (stopped (procedure (fault.NotConverged place steps update))) end computed by well = let no =
@@ -239,7 +241,7 @@ module _ (laws : Laws) (c : CircuitView) (ready : HasPassed c) (within : IsWithi
     ended_ill (stopped (uncertified (uncertain place bound))) end computed by well = let no = sym by ∙ well in cc no
 
     sweep_by : (rounds : List (Claim × List Act)) (end : SettleEnd)
-        → IsComputedFrom (limits_of c.options) (plant_at c 0) (begun_by c 0 first).machine rounds is.ending is.machine
+        → IsComputedFrom (computed_of (limits_of c.options)) (plant_at c 0) (begun_by c 0 first).machine rounds is.ending is.machine
         → IsEndBy c 0 is.ending is.machine end → IsSolved (made_of rounds end) → end ≡ settled
         → StandsBehind (made_of rounds end)
     sweep_by [] end computed by good well = absurd (ended_ill is.ending end computed by well)
