@@ -9,6 +9,8 @@
 #[cfg(test)]
 mod arith;
 #[cfg(test)]
+mod bounds;
+#[cfg(test)]
 mod cap;
 #[cfg(test)]
 mod checks;
