@@ -1,6 +1,6 @@
-// Three unknowns are eliminated in turn, and what comes of it: factors, how the unknowns move, heights and bounds, and what
-// the checker says. The equations are 4 x + y, 8 x + 6 y + z, which may be off by |y|, and x + 8 y + 7 z, each at most 10.
-// The numbers are those of docs/FACTORS.md, made apart from the program.
+// Three unknowns are eliminated in turn, and what comes of it: factors, how the unknowns move, heights and bounds, and
+// what the checker says. The equations are 4 x + y, 8 x + 6 y + z, which may be off by |y|, and x + 8 y + 7 z, each at
+// most 10. The numbers are those of docs/FACTORS.md, made apart from the program.
 ghost use Rattle.std.specs.Prelude.{◌≡◌, IfOk};
 ghost use Rattle.fd_base_tests.specs.InTurn.{in_turn};
 ghost use Rattle.fd_bounds.specs.fd_triangles.Factors.{AreOrdered};

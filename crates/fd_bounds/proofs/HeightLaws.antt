@@ -1,45 +1,22 @@
 -- Heights, by those of earlier rows.
-use Rattle.std.proofs.Common.{◌≡◌, ◌≢◌, ◌∙◌, ℕ, zero, suc, ◌+◌, ◌*◌, ◌<◌, ◌≤◌, ◌^◌, nat_abs, List, length, arith, ap, refl, inl, inr}
+use Rattle.std.proofs.Common.{◌≡◌, ◌∙◌, ℕ, suc, ◌+◌, ◌*◌, ◌<◌, ◌≤◌, ◌^◌, nat_abs, List, length, arith, ap, refl}
 use Rattle.std.proofs.Math.Nat.{mul-le-mul_left}
-use Rattle.std.proofs.lemmas.Bool.{cases_lt, eq-eqb, ne_eqb}
 use Rattle.fd_substitution.specs.fd_derived.fd_factors.Factors.{HasPlaces, allowance, defect, slack}
 use Rattle.fd_substitution.specs.fd_derived.fd_factors.fd_exact.SumLaws.{sum_n-le}
 use Rattle.fd_substitution.specs.fd_derived.Rows.{coefficient, radius, right_side_at, row_at}
 use Rattle.fd_substitution.specs.fd_derived.declared.entries.Equation.{Equation}
 use Rattle.fd_substitution.specs.fd_derived.declared.entries.Row.{Row}
-use Rattle.fd_bounds.specs.Passes.{above_part, heights, load}
+use Rattle.fd_substitution.proofs.CallerLemmas.{filled_here, filled_kept}
+use Rattle.fd_bounds.specs.Passes.{above_part, height_made, heights, load}
 use Rattle.fd_bounds.proofs.Weighing.{weigh_le, weigh_same}
 
 module _ (es : List Equation) (rows : List Row) where
-  -- ---- one row more
-
-  pub heights_start : (c : ℕ → ℕ) (k : ℕ) → heights es rows c 0 k ≡ 0
-  unfolding heights
-  heights_start c k = refl
-
-  pub heights_here : (c : ℕ → ℕ) (t k : ℕ) → t ≡ k → heights es rows c (suc t) k ≡ above_part (load es rows c (heights es rows c t) t) (2 ^ 40)
-  unfolding heights
-  heights_here c t k e = rw (eq-eqb t k e) refl
-
-  pub heights_there : (c : ℕ → ℕ) (t k : ℕ) → t ≢ k → heights es rows c (suc t) k ≡ heights es rows c t k
-  unfolding heights
-  heights_there c t k apart = rw (ne_eqb t k apart) refl
-
-  pub heights_none : (c : ℕ → ℕ) (t k : ℕ) → t ≤ k → heights es rows c t k ≡ 0
-  heights_none c zero k h = heights_start c k
-  heights_none c (suc t) k h = heights_there c t k (λ e. omega arith) ∙ heights_none c t k (omega arith)
-
   pub heights_kept : (c : ℕ → ℕ) (u t k : ℕ) → k < t → t ≤ u → heights es rows c u k ≡ heights es rows c t k
-  heights_kept c zero t k a b = absurd (omega arith)
-  heights_kept c (suc u) t k a b =
-      elim (cases_lt u t) [
-        | inl l ↦ let e : suc u ≡ t = omega arith in ap (λ n. heights es rows c n k) e
-        | inr l ↦ heights_there c u k (λ e. omega arith) ∙ heights_kept c u t k a l
-      ]
+  heights_kept c u t k a b = filled_kept 0 (λ s. s) (height_made es rows c) u t k b (λ e l m same. omega arith)
 
   -- the height of a row among those of all
   pub height_at : (c : ℕ → ℕ) (u t : ℕ) → t < u → heights es rows c u t ≡ above_part (load es rows c (heights es rows c t) t) (2 ^ 40)
-  height_at c u t h = heights_kept c u (suc t) t (omega arith) (omega arith) ∙ heights_here c t t refl
+  height_at c u t h = heights_kept c u (suc t) t (omega arith) (omega arith) ∙ filled_here 0 (λ s. s) (height_made es rows c) t t refl
 
   -- ---- what a height stands above
 

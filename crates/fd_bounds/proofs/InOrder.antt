@@ -30,16 +30,19 @@ row_parts (row ∷ rows) (suc t) = row_parts rows t
 abbrev none : Entry
 none = record { place = 0; units = pos 0 }
 
-pair_of : (row : List Entry) (k : ℕ) (d : ℕ × ℤ) → k < length (entries_of row) → get_or (entries_of row) k d ≡ entry_of (entry_at row k)
+pair_of : (row : List Entry) (k : ℕ) (d : ℕ × ℤ) → k < length (entries_of row)
+    → get_or (entries_of row) k d ≡ entry_of (entry_at row k)
 pair_of row k d l =
     get_or_default (entries_of row) k d (0, pos 0) l
     ∙ get_or-map entry_of row k none (0, pos 0) (omega (arith, l, length-map row entry_of))
 
 -- what holds of each entry
-all_entries : (P : ℕ × ℤ → Type 0) (row : List Entry) → ((k : ℕ) → k < length row → P (entry_of (entry_at row k))) → All P (entries_of row)
+all_entries : (P : ℕ × ℤ → Type 0) (row : List Entry) → ((k : ℕ) → k < length row → P (entry_of (entry_at row k)))
+    → All P (entries_of row)
 all_entries P row h k d l = subst P (sym (pair_of row k d l)) (h k (omega (arith, l, length-map row entry_of)))
 
-all_different : (row : List Entry) → ((i k : ℕ) → i < k → k < length row → (entry_at row i).place ≢ (entry_at row k).place)
+all_different : (row : List Entry)
+    → ((i k : ℕ) → i < k → k < length row → (entry_at row i).place ≢ (entry_at row k).place)
     → HasDistinctPlaces (entries_of row)
 all_different row h i k l m e =
     let k_in : k < length row = omega (arith, m, length-map row entry_of) in
@@ -50,7 +53,8 @@ rising_different : (row : List Entry) → IsRising row → HasDistinctPlaces (en
 rising_different row rising = all_different row (λ i k l m e. omega (arith, rising i k l m, e))
 
 -- at the place of an entry the numbers of its row aren't 0
-number_there : (n : ℕ) (f : ℕ → ℤ) (row : List Entry) → IsRowOf n f row → (k : ℕ) → k < length row → f (entry_at row k).place ≢ pos 0
+number_there : (n : ℕ) (f : ℕ → ℤ) (row : List Entry) → IsRowOf n f row → (k : ℕ) → k < length row
+    → f (entry_at row k).place ≢ pos 0
 number_there n f row is k l e =
     is.is_row.other k l (sym (whole_here row k is.is_row.rising l) ∙ is.numbers (entry_at row k).place ∙ e)
 
@@ -66,7 +70,8 @@ cleared_here : (row other : ℕ → ℤ) (q c : ℕ) → c ≡ q → cleared row
 unfolding cleared
 cleared_here row other q c e = rw (eq-eqb c q e) refl
 
-cleared_there : (row other : ℕ → ℤ) (q c : ℕ) → c ≢ q → cleared row other q c ≡ less (row c) (multiple (row q) (other q)) (other c)
+cleared_there : (row other : ℕ → ℤ) (q c : ℕ) → c ≢ q
+    → cleared row other q c ≡ less (row c) (multiple (row q) (other q)) (other c)
 unfolding cleared
 cleared_there row other q c e = rw (ne_eqb c q e) refl
 
@@ -198,7 +203,8 @@ module _ (es : List Equation) (order : List Pair) where
         record {
           once = record {
             equations = subst HasDistinctPlaces (sym (row_equations t t_in)) (one eq);
-            others = subst HasDistinctPlaces (sym (row_others t t_in)) (rising_different (others t t_in) others_are.rising);
+            others = subst HasDistinctPlaces (sym (row_others t t_in))
+                (rising_different (others t t_in) others_are.rising);
             left = subst HasDistinctPlaces (sym (row_left t t_in))
                 (all_different (pivot t t_in ∷ rest t t_in) (left_different t t_in));
           };
@@ -224,7 +230,8 @@ module _ (es : List Equation) (order : List Pair) where
           unknowns_apart s t l (omega (arith, m, ordered.long))
           (sym (all_unknowns s (omega arith)) ∙ e ∙ all_unknowns t m);
       covers = covering (unknown_at rows) (length es)
-          (λ t l. subst (λ q. q < length es) (sym (all_unknowns t l)) (ordered.unknowns t (omega (arith, l, ordered.long))))
+          (λ t l. subst (λ q. q < length es) (sym (all_unknowns t l))
+          (ordered.unknowns t (omega (arith, l, ordered.long))))
           (λ s t l m e. unknowns_apart s t l (omega (arith, m, ordered.long))
           (sym (all_unknowns s (omega arith)) ∙ e ∙ all_unknowns t m));
     }

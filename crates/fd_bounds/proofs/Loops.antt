@@ -8,13 +8,12 @@ use Rattle.fd_substitution.specs.fd_derived.Rows.{NamesExist, number_at}
 use Rattle.fd_substitution.specs.fd_derived.Sums.{AreZero, capped}
 use Rattle.fd_substitution.specs.fd_derived.declared.entries.Equation.{Equation}
 use Rattle.fd_substitution.specs.fd_derived.declared.entries.Row.{Row}
+use Rattle.fd_substitution.proofs.CallerLemmas.{filled_here, filled_kept, filled_start, filled_there}
 use Rattle.fd_bounds.specs.Defects.{weighed}
-use Rattle.fd_bounds.specs.Passes.{above_part, bound_unless_wide, bounds, from_last, heights, is_wide_over, load, raised, remainder}
+use Rattle.fd_bounds.specs.Passes.{above_part, bound_unless_wide, bounds, from_last, height_made, heights, is_wide_over, load, raised, remainder}
 use Rattle.fd_bounds.specs.Rows.{AreInOrder, pivot_at, unknown_at}
 use Rattle.fd_bounds.specs.declared.defects.Defect.{Defect}
-use Rattle.fd_bounds.proofs.HeightLaws.{heights_here, heights_none, heights_there}
 use Rattle.fd_bounds.proofs.Sizes.{weighed_push}
-use Rattle.fd_bounds.proofs.WidthLaws.{bounds_here, bounds_there}
 
 -- ---- what is found first
 
@@ -60,29 +59,17 @@ heights_push es rows C list t x long each e k =
     let q : suc t ≡ t + 1 = omega arith in
     subst (λ n. number_at (list ++ x ∷ []) k ≡ heights es rows C n k) q (elim (cases_lt k t) [
       | inl s ↦ get_or_append_left list (x ∷ []) 0 k (subst (λ n. k < n) (sym long) s) ∙ each k
-          ∙ sym (heights_there es rows C t k (λ a. omega arith))
+          ∙ sym (filled_there 0 (λ i. i) (height_made es rows C) t k (λ a. omega arith))
       | inr s ↦ elim (cases_eq t k) [
         | inl same ↦ subst (λ n. number_at (list ++ x ∷ []) n ≡ heights es rows C (suc t) n) same
-            (get_or_push list x 0 t long ∙ e ∙ sym (heights_here es rows C t t refl))
+            (get_or_push list x 0 t long ∙ e ∙ sym (filled_here 0 (λ i. i) (height_made es rows C) t t refl))
         | inr apart ↦ get_or_past (list ++ x ∷ []) k 0 (omega (arith, length_push list x))
-            ∙ sym (heights_none es rows C (suc t) k (omega arith))
+            ∙ sym (filled_kept 0 (λ i. i) (height_made es rows C) (suc t) 0 k (omega arith) (λ e a b same. omega arith)
+            ∙ filled_start 0 (λ i. i) (height_made es rows C) k)
       ]
     ])
 
 -- ---- bounds
-
-pub bounds_set : (rows : List Row) (h : ℕ → ℕ) (list : List ℕ) (d u x : ℕ) → u ≡ unknown_at rows (from_last rows d) → u < length list
-    → ((j : ℕ) → number_at list j ≡ bounds rows h d j)
-    → x ≡ above_part (remainder rows h (bounds rows h d) (from_last rows d)) (pivot_at rows (from_last rows d))
-    → (j : ℕ) → number_at (set list u x) j ≡ bounds rows h (d + 1) j
-bounds_set rows h list d u x is u_in each e j =
-    let q : suc d ≡ d + 1 = omega arith in
-    subst (λ n. number_at (set list u x) j ≡ bounds rows h n j) q (elim (cases_eq u j) [
-      | inl same ↦ subst (λ n. number_at (set list u x) n ≡ bounds rows h (suc d) n) same
-          (get_or-set_same list u x 0 u_in ∙ e ∙ sym (bounds_here rows h d u (sym is)))
-      | inr apart ↦ get_or-set_other list u j x 0 (λ a. apart (sym a)) ∙ each j
-          ∙ sym (bounds_there rows h d j (λ a. apart (is ∙ a)))
-    ])
 
 some_of : (b : Bool) (x y : ℕ) → Some x ≡ cond b None (Some y) → (b ≡ false) × (x ≡ y)
 some_of true x y e = let no : ⊥ = cc in absurd no

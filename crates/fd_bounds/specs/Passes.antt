@@ -1,5 +1,5 @@
 -- Passes over rows in order: from bounds of the unknowns to heights of the rows, and from these to new bounds.
-use Rattle.std.specs.Prelude.{◌≡◌, ℕ, zero, suc, ◌+◌, ◌-◌, ◌/◌, ◌^◌, ◌==◌, ◌||◌, nat_le, nat_lt, Bool, if◌then◌else◌, List, length, Option, Some, None, option_map}
+use Rattle.std.specs.Prelude.{◌≡◌, ℕ, zero, suc, ◌+◌, ◌-◌, ◌/◌, ◌^◌, ◌||◌, nat_le, nat_lt, Bool, if◌then◌else◌, List, length, Option, Some, None, option_map}
 use Rattle.std.specs.Option.{option_or}
 use Rattle.fd_substitution.specs.fd_derived.fd_factors.Factors.{slack, weighted_size}
 use Rattle.fd_substitution.specs.fd_derived.fd_factors.fd_exact.First.{first_place}
@@ -7,6 +7,7 @@ use Rattle.fd_substitution.specs.fd_derived.Refusals.{added_sizes}
 use Rattle.fd_substitution.specs.fd_derived.Rows.{coefficient, number_at, radius, right_side_at, row_at}
 use Rattle.fd_substitution.specs.fd_derived.declared.entries.Equation.{Equation}
 use Rattle.fd_substitution.specs.fd_derived.declared.entries.Row.{Row}
+use Rattle.fd_substitution.specs.Filling.{filled}
 use Rattle.fd_bounds.specs.Rows.{pivot_at, rest_at, unknown_at}
 use Rattle.fd_bounds.specs.declared.fault.BoundFault.{BoundFault}
 use Rattle.fd_bounds.specs.declared.fault.BoundFault.TheVariants.{NoMemory, Unbounded}
@@ -38,11 +39,16 @@ module _ (rows : List Row) where
   abbrev pub from_last : ℕ → ℕ
   from_last d = length rows - suc d
 
-  -- the bounds of the unknowns of the last so many rows, by those of the rows behind each; of the others none yet
-  unfoldable pub bounds : (ℕ → ℕ) → ℕ → ℕ → ℕ
-  bounds h zero j = 0
-  bounds h (suc d) j = (if unknown_at rows (from_last d) == j
-      then above_part (remainder h (bounds h d) (from_last d)) (pivot_at rows (from_last d)) else bounds h d j)
+  -- its unknown, and the bound of that by those of the unknowns of the rows behind
+  abbrev pub unknown_from_last : ℕ → ℕ
+  unknown_from_last d = unknown_at rows (from_last d)
+
+  abbrev pub bound_made : (ℕ → ℕ) → (ℕ → ℕ) → ℕ → ℕ
+  bound_made h r d = above_part (remainder h r (from_last d)) (pivot_at rows (from_last d))
+
+  -- the bounds of the unknowns of the last so many rows; of the others none yet
+  abbrev pub bounds : (ℕ → ℕ) → ℕ → ℕ → ℕ
+  bounds h = filled 0 unknown_from_last (bound_made h)
 
   -- a sum is 2^127 or more or the bound past 2^60, at the row that has so many behind it
   abbrev pub is_wide : (ℕ → ℕ) → ℕ → Bool
@@ -50,7 +56,7 @@ module _ (rows : List Row) where
 
   -- the unknown of the last row of which that is so
   abbrev pub bounds_end : (ℕ → ℕ) → Option ℕ
-  bounds_end h = option_map (λ d. unknown_at rows (from_last d)) (first_place (is_wide h) (length rows))
+  bounds_end h = option_map unknown_from_last (first_place (is_wide h) (length rows))
 
   -- the list has the bounds over heights h
   pub record AreBounds (n : ℕ) (h : ℕ → ℕ) (list : List ℕ) : Type 0 where
@@ -66,10 +72,13 @@ module _ (es : List Equation) (rows : List Row) where
   load c h t = weighted_size (row_at rows t).others h
       + slack (length es) (length rows) (2 ^ 40) (coefficient es) (radius es) (row_at rows) (right_side_at es) h c t
 
-  -- the heights of the first so many rows, by those of the rows before each; of the others none yet
-  unfoldable pub heights : (ℕ → ℕ) → ℕ → ℕ → ℕ
-  heights c zero k = 0
-  heights c (suc t) k = (if t == k then above_part (load c (heights c t) t) (2 ^ 40) else heights c t k)
+  -- its height, by those of the rows before it
+  abbrev pub height_made : (ℕ → ℕ) → (ℕ → ℕ) → ℕ → ℕ
+  height_made c h t = above_part (load c h t) (2 ^ 40)
+
+  -- the heights of the first so many rows; of the others none yet
+  abbrev pub heights : (ℕ → ℕ) → ℕ → ℕ → ℕ
+  heights c = filled 0 (λ t. t) (height_made c)
 
   -- a sum is 2^127 or more
   abbrev pub is_high : (ℕ → ℕ) → ℕ → Bool

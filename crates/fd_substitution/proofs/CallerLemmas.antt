@@ -1,6 +1,7 @@
 -- Lemmas that callers cite.
 pub use Rattle.fd_triangles.proofs.CallerLemmas.fd_derived as fd_derived
 pub use Rattle.fd_triangles.proofs.CallerLemmas as fd_triangles
+pub use Rattle.fd_substitution.proofs.Filling.{filled_here, filled_kept, filled_more, filled_start, filled_there}
 use Rattle.std.proofs.Common.{◌≡◌, ◌∙◌, ◌<◌, ◌≤◌, ◌^◌, nat_abs, List, length, drop, arith, ap, subst, sym}
 use Rattle.fd_triangles.specs.Elimination.{pivot_of}
 use Rattle.fd_triangles.specs.Factors.{AreFactors, AreOrdered}

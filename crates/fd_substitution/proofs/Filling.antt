@@ -1,22 +1,14 @@
 -- Numbers that are made one after the other, and lists that hold them.
-use Rattle.std.proofs.Common.{◌≡◌, ◌≢◌, ◌⊎◌, inl, inr, ◌∙◌, ℕ, ◌+◌, ◌<◌, ◌^◌, ◌==◌, if◌then◌else◌, ℤ, pos, ◌*ℤ◌, List, length, replicate, set, arith, add-one, ap, refl, subst, sym, get_or-set_other, get_or-set_same}
+use Rattle.std.proofs.Common.{◌≡◌, ◌≢◌, inl, inr, ◌∙◌, ℕ, zero, suc, ◌+◌, ◌<◌, ◌≤◌, ◌^◌, ℤ, pos, ◌*ℤ◌, List, length, get_or, replicate, set, arith, add-one, ap, refl, subst, sym, get_or-set_other, get_or-set_same}
 use Rattle.std.proofs.lemmas.List.{get_or-replicate, get_or_past, length-replicate}
-use Rattle.std.proofs.lemmas.Bool.{cases_lt}
+use Rattle.std.proofs.lemmas.Bool.{cases_eq, cases_lt, eq-eqb, ne_eqb}
 use Rattle.fd_triangles.specs.Elimination.{pair_at}
 use Rattle.fd_triangles.specs.declared.pair.Pair.{Pair}
 use Rattle.fd_triangles.specs.fd_derived.fd_factors.fd_exact.States.{part}
 use Rattle.fd_triangles.specs.fd_derived.declared.entries.Row.{Row}
+use Rattle.fd_substitution.specs.Filling.{filled}
 use Rattle.fd_substitution.specs.Sums.{IsPast, IsWithin, raised}
-use Rattle.fd_substitution.specs.Substitution.{AreLower, LowerIsPast, LowerIsWithin, UpperIsPast, UpperIsWithin, filled, lower, lower_made, number_of, others_at, pivot_at, place_before, rest_at, unknown_before, upper, upper_made}
-
-near_or : (k c : ℕ) → (k ≡ c) ⊎ (k ≢ c)
-near_or k c = grind arith
-
-choose_same : (place c : ℕ) (u v : ℤ) → place ≡ c → (if place == c then u else v) ≡ u
-choose_same place c u v h = grind arith
-
-choose_other : (place c : ℕ) (u v : ℤ) → place ≢ c → (if place == c then u else v) ≡ v
-choose_other place c u v h = grind arith
+use Rattle.fd_substitution.specs.Substitution.{AreLower, LowerIsPast, LowerIsWithin, UpperIsPast, UpperIsWithin, lower, lower_made, number_of, others_at, pivot_at, place_before, rest_at, unknown_before, upper, upper_made}
 
 -- functions that are equal at each number
 ext : (f g : ℕ → ℤ) → ((j : ℕ) → f j ≡ g j) → f ≡ g
@@ -31,23 +23,41 @@ zero_at n xs e j = elim (cases_lt j n) [
       ∙ get_or_past (replicate n (pos 0)) j (pos 0) (omega (arith, length-replicate n (pos 0)))
 ]
 
-pub filled_none : (key : ℕ → ℕ) (make : (ℕ → ℤ) → ℕ → ℤ) (xs : List ℤ) → ((j : ℕ) → part xs j ≡ pos 0)
-    → (j : ℕ) → part xs j ≡ filled key make 0 j
-unfolding filled
-filled_none key make xs h j = h j
+-- ---- one step more
 
-pub filled_more : (key : ℕ → ℕ) (make : (ℕ → ℤ) → ℕ → ℤ) (s : ℕ) (xs : List ℤ) (v : ℤ) (q : ℕ)
-    → q ≡ key s → q < length xs
-    → ((j : ℕ) → part xs j ≡ filled key make s j) → v ≡ make (filled key make s) s
-    → (j : ℕ) → part (set xs q v) j ≡ filled key make (s + 1) j
-unfolding filled
-filled_more key make s xs v q is q_in are v_is j =
-    subst (λ m. part (set xs q v) j ≡ filled key make m j) (sym (add-one s)) (elim (near_or (key s) j) [
-      | inl same ↦ ap (part (set xs q v)) (sym same ∙ sym is) ∙ get_or-set_same xs q v (pos 0) q_in ∙ v_is
-          ∙ sym (choose_same (key s) j (make (filled key make s) s) (filled key make s j) same)
-      | inr apart ↦ get_or-set_other xs q j v (pos 0) (λ e. apart (sym (e ∙ is))) ∙ are j
-          ∙ sym (choose_other (key s) j (make (filled key make s) s) (filled key make s j) apart)
-    ])
+module _ {A : Type 0} (none : A) (key : ℕ → ℕ) (make : (ℕ → A) → ℕ → A) where
+  pub filled_start : (j : ℕ) → filled none key make 0 j ≡ none
+  unfolding filled
+  filled_start j = refl
+
+  pub filled_here : (s j : ℕ) → key s ≡ j → filled none key make (suc s) j ≡ make (filled none key make s) s
+  unfolding filled
+  filled_here s j e = rw (eq-eqb (key s) j e) refl
+
+  pub filled_there : (s j : ℕ) → key s ≢ j → filled none key make (suc s) j ≡ filled none key make s j
+  unfolding filled
+  filled_there s j apart = rw (ne_eqb (key s) j apart) refl
+
+  -- what stands at a number stays where it is the key of no step between
+  pub filled_kept : (u s j : ℕ) → s ≤ u → ((e : ℕ) → s ≤ e → e < u → key e ≢ j)
+      → filled none key make u j ≡ filled none key make s j
+  filled_kept zero s j l apart = let e : zero ≡ s = omega arith in ap (λ n. filled none key make n j) e
+  filled_kept (suc u) s j l apart =
+      elim (cases_lt u s) [
+        | inl p ↦ let e : suc u ≡ s = omega arith in ap (λ n. filled none key make n j) e
+        | inr p ↦ filled_there u j (apart u p (omega arith)) ∙ filled_kept u s j p (λ e a b. apart e a (omega arith))
+      ]
+
+  pub filled_more : (s : ℕ) (xs : List A) (v : A) (q : ℕ) → q ≡ key s → q < length xs
+      → ((j : ℕ) → get_or xs j none ≡ filled none key make s j) → v ≡ make (filled none key make s) s
+      → (j : ℕ) → get_or (set xs q v) j none ≡ filled none key make (s + 1) j
+  filled_more s xs v q is q_in are v_is j =
+      subst (λ m. get_or (set xs q v) j none ≡ filled none key make m j) (sym (add-one s)) (elim (cases_eq q j) [
+        | inl same ↦ subst (λ n. get_or (set xs q v) n none ≡ filled none key make (suc s) n) same
+            (get_or-set_same xs q v none q_in ∙ v_is ∙ sym (filled_here s q (sym is)))
+        | inr apart ↦ get_or-set_other xs q j v none (λ e. apart (sym e)) ∙ are j
+            ∙ sym (filled_there s j (λ e. apart (is ∙ e)))
+      ])
 
 -- ---- the numbers of the places
 
@@ -68,7 +78,7 @@ module _ (rows : List Row) (order : List Pair) (right : List ℤ) (t : ℕ) (xs 
 
   pub lower_more : (v : ℤ) → t < length xs → v ≡ lower_made rows order right (part xs) t
       → (j : ℕ) → part (set xs t v) j ≡ lower rows order right (t + 1) j
-  lower_more v t_in e = filled_more (λ k. k) (lower_made rows order right) t xs v t refl t_in are
+  lower_more v t_in e = filled_more (pos 0) (λ k. k) (lower_made rows order right) t xs v t refl t_in are
       (e ∙ ap (λ (x : ℕ → ℤ). lower_made rows order right x t) lower_same)
 
 -- ---- the numbers of the unknowns
@@ -103,5 +113,5 @@ module _ (rows : List Row) (order : List Pair) (right : List ℤ) (s : ℕ) (low
       → v ≡ raised (part lows t) (rest_at rows t) (part xs) (pivot_at rows t)
       → (j : ℕ) → part (set xs (pair_at order t).unknown v) j ≡ upper rows order right (s + 1) j
   upper_more v q_in e =
-      filled_more (unknown_before order) (upper_made rows order right) s xs v (pair_at order t).unknown unknown_there
-      q_in are (there (λ i n x. v ≡ raised n (rest_at rows i) x (pivot_at rows i)) e)
+      filled_more (pos 0) (unknown_before order) (upper_made rows order right) s xs v (pair_at order t).unknown
+      unknown_there q_in are (there (λ i n x. v ≡ raised n (rest_at rows i) x (pivot_at rows i)) e)

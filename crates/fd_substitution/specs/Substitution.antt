@@ -1,6 +1,7 @@
 -- The step that factors make of right sides: the numbers of the places, from the first on, and from them those of the
 -- unknowns, from the last place on.
-use Rattle.std.specs.Prelude.{◌≡◌, ℕ, zero, suc, ◌-◌, ◌<◌, ◌^◌, ◌==◌, if◌then◌else◌, ℤ, pos, ◌*ℤ◌, nat_abs, List, length, drop, ◌⊎◌}
+use Rattle.std.specs.Prelude.{◌≡◌, ℕ, suc, ◌-◌, ◌<◌, ◌^◌, ℤ, pos, ◌*ℤ◌, nat_abs, List, length, drop, ◌⊎◌}
+use Rattle.fd_substitution.specs.Filling.{filled}
 use Rattle.fd_substitution.specs.Sums.{IsInside, IsPast, IsWithin, lowered, raised}
 use Rattle.fd_substitution.specs.declared.fault.StepFault.{StepFault}
 use Rattle.fd_substitution.specs.declared.fault.StepFault.TheVariants.{NoMemory, Range}
@@ -12,13 +13,6 @@ use Rattle.fd_triangles.specs.fd_derived.fd_factors.fd_exact.Rounding.{near_div}
 use Rattle.fd_triangles.specs.fd_derived.fd_factors.fd_exact.States.{part}
 use Rattle.fd_triangles.specs.fd_derived.declared.entries.Entry.{Entry}
 use Rattle.fd_triangles.specs.fd_derived.declared.entries.Row.{Row}
-
--- ---- numbers that are made of those before them
-
--- the numbers at the keys of the first so many steps, each made of those before it, and 0 elsewhere
-unfoldable pub filled : (ℕ → ℕ) → ((ℕ → ℤ) → ℕ → ℤ) → ℕ → ℕ → ℤ
-filled key make zero j = pos 0
-filled key make (suc s) j = (if key s == j then make (filled key make s) s else filled key make s j)
 
 -- ---- the row at a place
 
@@ -60,7 +54,7 @@ module _ (rows : List Row) (order : List Pair) where
     lower_made y t = lowered (part right (pair_at order t).equation) (others_at rows t) y
 
     abbrev pub lower : ℕ → ℕ → ℤ
-    lower = filled (λ t. t) lower_made
+    lower = filled (pos 0) (λ t. t) lower_made
 
     -- the number of a place, and all that it is made of, is within its range
     abbrev pub LowerIsWithin : ℕ → Type 0
@@ -85,7 +79,7 @@ module _ (rows : List Row) (order : List Pair) where
         (pivot_at rows (place_before order s))
 
     abbrev pub upper : ℕ → ℕ → ℤ
-    upper = filled (unknown_before order) upper_made
+    upper = filled (pos 0) (unknown_before order) upper_made
 
     abbrev pub UpperIsWithin : ℕ → Type 0
     UpperIsWithin s = IsWithin (upper_start s) (rest_at rows (place_before order s)) (upper s) (upper_made (upper s) s)

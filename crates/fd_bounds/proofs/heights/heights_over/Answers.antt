@@ -3,9 +3,9 @@ use Rattle.std.proofs.lemmas.List.{length_push}
 use Rattle.fd_substitution.specs.fd_derived.Rows.{number_at, radius, right_side_at}
 use Rattle.fd_substitution.specs.fd_derived.fd_factors.fd_exact.Sums.{sum_n}
 use Rattle.fd_substitution.specs.fd_derived.Sums.{AreTotals, capped}
-use Rattle.fd_bounds.specs.Passes.{above_part, heights, is_high, load}
+use Rattle.fd_substitution.proofs.CallerLemmas.{filled_start}
+use Rattle.fd_bounds.specs.Passes.{above_part, height_made, heights, is_high, load}
 use Rattle.fd_bounds.specs.Rows.{unknown_at}
-use Rattle.fd_bounds.proofs.HeightLaws.{heights_start}
 use Rattle.fd_bounds.proofs.Loops.{found_first, found_none, heights_push, load_over, none_more}
 use Rattle.fd_bounds.proofs.Sizes.{high_capped, low_capped, not_capped}
 use Rattle.fd_bounds.proofs.heights.heights_over.Goals as goal
@@ -20,7 +20,7 @@ pub loop-row-init : goal.loop-row-init
 loop-row-init c = record {
   long = ap length c.in_ok-heights.ensures.items;
   each = λ k. ap (λ (l : List ℕ). number_at l k) c.in_ok-heights.ensures.items
-      ∙ sym (heights_start c.args.equations.now c.args.rows.now (number_at c.args.bounds.now) k);
+      ∙ sym (filled_start 0 (λ t. t) (height_made c.args.equations.now c.args.rows.now (number_at c.args.bounds.now)) k);
   low = λ k l. absurd (omega arith);
 }
 

@@ -1,10 +1,10 @@
 use Rattle.std.proofs.Common.{◌≡◌, ◌∙◌, ℕ, ◌<◌, Some, None, List, length, replicate, arith, ap, subst, sym, rules}
 use Rattle.std.proofs.lemmas.List.{length-replicate, length-set}
 use Rattle.fd_substitution.specs.fd_derived.Rows.{number_at}
-use Rattle.fd_bounds.specs.Passes.{bound_unless_wide, bounds, from_last, is_wide, remainder}
+use Rattle.fd_substitution.proofs.CallerLemmas.{filled_more, filled_start}
+use Rattle.fd_bounds.specs.Passes.{bound_made, bound_unless_wide, bounds, from_last, is_wide, remainder, unknown_from_last}
 use Rattle.fd_bounds.specs.Rows.{pivot_at, unknown_at}
-use Rattle.fd_bounds.proofs.WidthLaws.{bounds_start}
-use Rattle.fd_bounds.proofs.Loops.{bound_over, bounds_set, found_first, found_none, no_bound, none_more, some_bound, zeros_read}
+use Rattle.fd_bounds.proofs.Loops.{bound_over, found_first, found_none, no_bound, none_more, some_bound, zeros_read}
 use Rattle.fd_bounds.proofs.widths.widths.Goals as goal
 
 pub bound_at-requires-clause-pivot : goal.bound_at-requires-clause-pivot
@@ -18,7 +18,7 @@ loop-behind-init c =
     record {
       long = ap length items ∙ length-replicate (length c.args.equations.now) 0;
       each = λ j. ap (λ (l : List ℕ). number_at l j) items ∙ zeros_read (length c.args.equations.now) j
-          ∙ sym (bounds_start c.args.rows.now (number_at c.args.heights.now) j);
+          ∙ sym (filled_start 0 (unknown_from_last c.args.rows.now) (bound_made c.args.rows.now (number_at c.args.heights.now)) j);
       narrow = λ d l. absurd (omega arith);
     }
 
@@ -44,7 +44,7 @@ loop-behind-preserved c =
     (c.requires.order.each t (subst (λ n. t < n) c.requires.order.long c.last_but-row.ensures.inside)).unknown) in
     record {
       long = length-set list u x ∙ c.loop-behind.invariant.long;
-      each = bounds_set rows hs list d u x u_is u_in c.loop-behind.invariant.each found.1;
+      each = filled_more 0 (unknown_from_last rows) (bound_made rows hs) d list x u u_is u_in c.loop-behind.invariant.each found.1;
       narrow = none_more (is_wide rows hs) d c.loop-behind.invariant.narrow found.0;
     }
 

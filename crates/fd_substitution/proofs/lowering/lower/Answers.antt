@@ -5,15 +5,15 @@ use Rattle.std.proofs.lemmas.List.{length-set}
 use Rattle.fd_triangles.specs.fd_derived.fd_factors.fd_exact.States.{part}
 use Rattle.fd_substitution.specs.Sums.{IsPast, IsWithin}
 use Rattle.fd_substitution.specs.Substitution.{lower_made, others_at}
-use Rattle.fd_substitution.proofs.Filling.{filled_none, lower_more, lower_past, lower_within}
+use Rattle.fd_substitution.proofs.Filling.{filled_start, lower_more, lower_past, lower_within}
 use Rattle.fd_substitution.proofs.Sizes.{narrow}
 use Rattle.fd_substitution.proofs.lowering.lower.Goals as goal
 
 pub loop-t-init : goal.loop-t-init
 loop-t-init c = record {
   long = c.in_ok-numbers.ensures.long;
-  each = filled_none (λ k. k) (lower_made c.args.rows.now c.args.order.now c.args.right.now)
-      c.in_ok-numbers.numbers.items c.in_ok-numbers.ensures.zero;
+  each = λ j. c.in_ok-numbers.ensures.zero j
+      ∙ sym (filled_start (pos 0) (λ k. k) (lower_made c.args.rows.now c.args.order.now c.args.right.now) j);
   within = λ k l. absurd (omega arith);
 }
 

@@ -6,15 +6,15 @@ use Rattle.fd_triangles.specs.Elimination.{pair_at}
 use Rattle.fd_triangles.specs.fd_derived.fd_factors.fd_exact.States.{part}
 use Rattle.fd_substitution.specs.Sums.{IsPast, IsWithin, raised}
 use Rattle.fd_substitution.specs.Substitution.{pivot_at, place_before, rest_at, unknown_before, upper_made}
-use Rattle.fd_substitution.proofs.Filling.{filled_none, unknown_there, upper_more, upper_past, upper_within}
+use Rattle.fd_substitution.proofs.Filling.{filled_start, unknown_there, upper_more, upper_past, upper_within}
 use Rattle.fd_substitution.proofs.Sizes.{narrow}
 use Rattle.fd_substitution.proofs.raising.upper.Goals as goal
 
 pub loop-behind-init : goal.loop-behind-init
 loop-behind-init c = record {
   long = c.in_ok-numbers.ensures.long;
-  each = λ right on. filled_none (unknown_before c.args.order.now) (upper_made c.args.rows.now c.args.order.now right)
-      c.in_ok-numbers.numbers.items c.in_ok-numbers.ensures.zero;
+  each = λ right on j. c.in_ok-numbers.ensures.zero j
+      ∙ sym (filled_start (pos 0) (unknown_before c.args.order.now) (upper_made c.args.rows.now c.args.order.now right) j);
   within = λ right on k l. absurd (omega arith);
 }
 
