@@ -1,5 +1,5 @@
 -- Two rows in the order of the tests make steps.
-use Rattle.std.proofs.Common.{◌≡◌, ℕ, zero, suc, ◌<◌, ◌≤◌, ◌^◌, ℤ, nat_abs, List, [], ◌∷◌, drop, arith, refl, subst, sym}
+use Rattle.std.proofs.Common.{◌≡◌, ℕ, zero, suc, ◌<◌, ◌≤◌, ◌^◌, ℤ, nat_abs, [], ◌∷◌, drop, arith, refl, subst, sym}
 use Rattle.fd_base_tests.specs.Crossed.{crossed}
 use Rattle.fd_bounds.specs.fd_substitution.Substitution.{CanStep, others_at, pivot_at, rest_at}
 use Rattle.fd_bounds.specs.fd_substitution.Sums.{IsInside}
