@@ -35,3 +35,6 @@ pub use order::radial;
 
 // Handed on from the crates below.
 pub use dss_circuit::Circuit;
+pub use dss_layout::{
+    Element, ElementName, Items, Layout, NodeName, Terminals, Text, terminal_nodes,
+};

@@ -16,4 +16,6 @@ mod circuits;
 #[cfg(test)]
 mod equations;
 #[cfg(test)]
+mod levels;
+#[cfg(test)]
 mod network;
