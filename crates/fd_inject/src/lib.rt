@@ -21,7 +21,11 @@ mod updates;
 pub use fault::SolveFault;
 pub use kept::{Kept, KeptPair, solve, solve_kept};
 pub use limits::Limits;
+pub use procedure::set_magnitudes;
+pub use ranges::test_range;
+pub use steps::first_moving;
+pub use updates::add;
 
 // Handed on from the crates below.
 pub use fd_equations::{Dense, Network as NetworkRows, NetworkCopy, Point, Rows, SparseRows};
-pub use fd_inverse::{Stop, TapPair};
+pub use fd_inverse::{Held, Stop, TapPair};

@@ -35,8 +35,8 @@ fn inverse_there(alloc: Global, net: &Network, x: &[i128]) -> Result<Dense, Solv
     inverse(alloc, &matrix)
 }
 
-// Sets the magnitude of each load to the load's nominal voltage.
-fn set_magnitudes(x: &mut [i128], loads: &[LoadAt])
+/// Sets the magnitude of each load to the load's nominal voltage, in whole microvolts.
+pub fn set_magnitudes(x: &mut [i128], loads: &[LoadAt])
     ensures { x.new ≡ fold with_nominal x.old loads.now }
 {
     for load in loads {

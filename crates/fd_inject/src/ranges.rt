@@ -26,7 +26,10 @@ fn first_past(xs: &[i128], limit: u128) -> Option<u32>
     None
 }
 
-// Whether each number is at most `limit` in size; where one isn't, the first such place is out of range at this step.
+/// Whether each number is at most `limit` in size.
+///
+/// # Errors
+/// `OutOfRange` at this step with the first place at which one isn't.
 pub fn test_range(xs: &[i128], limit: u128, step: u32) -> Result<(), SolveFault>
     requires { length xs.now ≤ 2 ^ 11 }
     ensures range { MatchResult result (λ _. in_range limit step xs.now ≡ Ok xs.now) (λ f. in_range limit step xs.now ≡ Err f) }

@@ -92,8 +92,12 @@ fn is_far(tolerance: i128, weight: i128, update: i128) -> bool
     tolerance.unsigned_abs() * weight.unsigned_abs() < update.unsigned_abs() * 1_000_000_000
 }
 
-// The first place of a node or a magnitude at which the update that led to the iterate x was more than the tolerance times the weight at x.
-fn first_moving(
+/// The first place of a node or a magnitude at which the update that led to the iterate x was more than the tolerance times the weight at
+/// x, if there is one. State and update are in whole micro-units.
+///
+/// # Errors
+/// `AllocError` where the memory for the weights is refused.
+pub fn first_moving(
     alloc: Global,
     net: &Network,
     limits: &Limits,

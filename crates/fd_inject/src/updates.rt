@@ -78,7 +78,7 @@ fn product(entry: i64, residual: i128) -> i128
     entry as i128 * (residual as i64) as i128
 }
 
-// Adds an update to an iterate, part by part.
+/// Adds an update to an iterate, part by part.
 pub fn add(x: &mut [i128], update: &[i128])
     requires long { length update.now ≡ length x.old }
     requires parts { SizesWithin (2 ^ 40) x.old }
