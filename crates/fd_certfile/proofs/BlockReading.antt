@@ -1,13 +1,14 @@
 -- A block, part after part.
-use Rattle.std.proofs.Common.{◌≡◌, ℕ, zero, suc, ◌+◌, ◌≤◌, ℤ, List, [], ◌∷◌, length, Option, Some, None, Result, Ok, Err, refl, ap, sym, ◌∙◌, arith}
+use Rattle.std.proofs.Common.{◌≡◌, ℕ, ◌+◌, ◌≤◌, ℤ, List, [], ◌∷◌, length, Some, None, Result, Ok, Err, refl, ap, sym, ◌∙◌, arith}
 use Rattle.std.specs.Prelude.{map}
 use Rattle.std.specs.List.{slice_split}
 use Rattle.std.proofs.lemmas.List.{length-append}
 use Rattle.std.proofs.lemmas.List.Splits.{length-slice_split}
 use Rattle.std.proofs.lemmas.List.Sums.{count_by-le-length}
 use Rattle.fd_certfile.specs.Lines.{Line, header, solution, state, row, act, end, other, is_feed, rest_of, lines_in, lines_of}
-use Rattle.fd_certfile.specs.Blocks.{Version, Part, Act, Block, count_of, part_line, numbered_lines, part_at, row_at, ◌>>=◌, is_place, or_refused, numbered_at, acts_at, block_at}
-use Rattle.fd_certfile.proofs.Blocks.{Anything, bind_ok, numbered_found, part_found, length-numbered}
+use Rattle.fd_certfile.specs.Blocks.{Version, Part, Act, Block, count_of, part_line, numbered_lines, part_at, row_at, ◌>>=◌, is_place, numbered_at, acts_at, block_at}
+use Rattle.fd_certfile.proofs.Blocks.{Anything, part_found}
+use Rattle.fd_lines.proofs.CallerLemmas.{length-numbered, numbered_found, numbered_long}
 use Rattle.fd_certfile.proofs.Refused.{no_solution}
 use Rattle.fd_certfile.specs.declared.fault.Stop.{Stop}
 use Rattle.fd_certfile.specs.declared.fault.Stop.TheVariants as stop
@@ -124,33 +125,6 @@ due_line end n h r s e = absurd cc
 due_line other n h r s e = absurd cc
 
 -- ---- a block that is kept where its size is due
-
-pub numbered_long : {X : Type 0} (read : ℕ → Line → Option X) (n i : ℕ) (lines : List Line) (xs : List X) (rest : List Line)
-    → numbered_at read n i lines ≡ Ok (xs, rest) → length xs ≡ n
-numbered_long {X} read zero i lines xs rest e = let same : ◌≡◌ {A = List X × List Line} ([], lines) (xs, rest) = cc in
-    ap (λ (p : List X × List Line). length p.0) (sym same)
-numbered_long read (suc n) i [] xs rest e = absurd cc
-numbered_long {X} read (suc n) i (l ∷ lines) xs rest e =
-    let a = bind_ok (or_refused (l ∷ lines) (read i l)) (λ x. numbered_at read n (suc i) lines >>= λ ys. Ok (x ∷ ys.0, ys.1)) (xs, rest) e in
-    let b = bind_ok (numbered_at read n (suc i) lines) (λ ys. Ok (a.0 ∷ ys.0, ys.1)) (xs, rest) a.2 in
-    let c = b.2 in
-    let same : ◌≡◌ {A = List X × List Line} (a.0 ∷ b.0.0, b.0.1) (xs, rest) = cc in
-    ap (λ (p : List X × List Line). length p.0) (sym same) ∙ ap suc (numbered_long read n (suc i) lines b.0.0 b.0.1 b.1)
-
-pub numbered_left : {X : Type 0} (read : ℕ → Line → Option X) (n i : ℕ) (lines : List Line) (xs : List X) (rest : List Line)
-    → numbered_at read n i lines ≡ Ok (xs, rest) → length lines ≡ n + length rest
-numbered_left {X} read zero i lines xs rest e =
-    let same : ◌≡◌ {A = List X × List Line} ([], lines) (xs, rest) = cc in
-    let long : length lines ≡ length rest = ap (λ (p : List X × List Line). length p.1) same in
-    omega (arith, long)
-numbered_left read (suc n) i [] xs rest e = absurd cc
-numbered_left {X} read (suc n) i (l ∷ lines) xs rest e =
-    let a = bind_ok (or_refused (l ∷ lines) (read i l)) (λ x. numbered_at read n (suc i) lines >>= λ ys. Ok (x ∷ ys.0, ys.1)) (xs, rest) e in
-    let b = bind_ok (numbered_at read n (suc i) lines) (λ ys. Ok (a.0 ∷ ys.0, ys.1)) (xs, rest) a.2 in
-    let c = b.2 in
-    let same : ◌≡◌ {A = List X × List Line} (a.0 ∷ b.0.0, b.0.1) (xs, rest) = cc in
-    let long : length b.0.1 ≡ length rest = ap (λ (p : List X × List Line). length p.1) same in
-    omega (arith, numbered_left read n (suc i) lines b.0.0 b.0.1 b.1, long)
 
 module _ (v : Version) (due : ℕ) (x : Ahead) (lines : List Line) where
   pub ahead_is : (parts : List Part) (mid : List Line) (rows : List (List ℤ))

@@ -1,55 +1,13 @@
 -- A block has one list of lines in each version.
-use Rattle.std.proofs.Common.{◌≡◌, ℕ, zero, suc, ◌+◌, Bool, true, false, ℤ, pos, List, [], ◌∷◌, ◌++◌, length, Option, Some, None, Result, Ok, Err, refl, ap, sym, subst, ◌∙◌, arith, add-one}
+use Rattle.std.proofs.Common.{◌≡◌, ℕ, ◌+◌, Bool, true, false, ℤ, pos, List, [], ◌∷◌, ◌++◌, length, Option, Some, None, Result, Ok, refl, ap, sym, subst, ◌∙◌, arith}
 use Rattle.std.specs.Prelude.{map, if◌then◌else◌}
 use Rattle.std.specs.List.{AllByRecursion}
 use Rattle.std.proofs.lemmas.Bool.{cond-true}
 use Rattle.std.proofs.lemmas.List.{append_assoc, append-nil, length-map, length-append}
 use Rattle.fd_certfile.specs.Lines.{Line, header, solution, state, row, act, end, other}
-use Rattle.fd_certfile.specs.Blocks.{Version, Whole, Sparse, Part, Act, Block, count_of, is_place, part_line, row_line, act_line, numbered_lines, block_lines, IsSized, ◌>>=◌, row_of, part_at, row_at, or_refused, numbered_at, acts_at, block_at, IsBehindActs, Spells}
-use Rattle.fd_lines.proofs.CallerLemmas.{let_through}
+use Rattle.fd_certfile.specs.Blocks.{Version, Whole, Sparse, Part, Act, Block, count_of, is_place, part_line, row_line, act_line, numbered_lines, block_lines, IsSized, ◌>>=◌, row_of, part_at, row_at, numbered_at, acts_at, block_at, IsBehindActs, Spells}
+use Rattle.fd_lines.proofs.CallerLemmas.{IsFound, ReadsAgain, bind_ok, length-numbered, let_through, numbered_again, numbered_found}
 use Rattle.fd_certfile.proofs.RowForms.{is_place_self, place_is, row_again, row_found}
-
-pub bind_ok : {A B : Type 0} (r : Result A (List Line)) (f : A → Result B (List Line)) (y : B) → (r >>= f) ≡ Ok y
-    → (x : A) × (r ≡ Ok x) × (f x ≡ Ok y)
-bind_ok (Ok x) f y e = (x, refl, e)
-bind_ok (Err d) f y e = absurd cc
-
-pub read_ok : {X : Type 0} (lines : List Line) (o : Option X) (x : X) → or_refused lines o ≡ Ok x → o ≡ Some x
-read_ok lines None x e = absurd cc
-read_ok lines (Some y) x e = cc
-
--- ---- numbered lines
-
-module _ {X : Type 0} (read : ℕ → Line → Option X) (line : ℕ → X → Line) (IsRight : X → Type 0) where
-  abbrev pub ReadsAgain : Type 0
-  ReadsAgain = (i : ℕ) (x : X) → IsRight x → read i (line i x) ≡ Some x
-
-  abbrev pub IsFound : Type 0
-  IsFound = (i : ℕ) (l : Line) (x : X) → read i l ≡ Some x → (l ≡ line i x) × IsRight x
-
-  pub numbered_again : ReadsAgain → (i : ℕ) (xs : List X) (rest : List Line) → AllByRecursion IsRight xs
-      → numbered_at read (length xs) i (numbered_lines line i xs ++ rest) ≡ Ok (xs, rest)
-  numbered_again each i [] rest h = refl
-  numbered_again each i (x ∷ xs) rest h =
-      let first = each i x h.0 in
-      let others : numbered_at read (length xs) (suc i) (numbered_lines line (suc i) xs ++ rest) ≡ Ok (xs, rest) = numbered_again each (suc i) xs rest h.1 in
-      rw (first, add-one, others) refl
-
-  pub numbered_found : IsFound → (n i : ℕ) (lines : List Line) (y : List X × List Line)
-      → numbered_at read n i lines ≡ Ok y
-      → (lines ≡ numbered_lines line i y.0 ++ y.1) × (length y.0 ≡ n) × AllByRecursion IsRight y.0
-  numbered_found each zero i lines y e =
-      let same : ([], lines) ≡ y = cc in
-      subst (λ (z : List X × List Line). (lines ≡ numbered_lines line i z.0 ++ z.1) × (length z.0 ≡ 0) × AllByRecursion IsRight z.0) same (refl, refl, tt)
-  numbered_found each (suc n) i [] y e = absurd cc
-  numbered_found each (suc n) i (l ∷ lines) y e =
-      let a = bind_ok (or_refused (l ∷ lines) (read i l)) (λ x. numbered_at read n (suc i) lines >>= λ xs. Ok (x ∷ xs.0, xs.1)) y e in
-      let b = bind_ok (numbered_at read n (suc i) lines) (λ xs. Ok (a.0 ∷ xs.0, xs.1)) y a.2 in
-      let first = each i l a.0 (read_ok (l ∷ lines) (read i l) a.0 a.1) in
-      let rest = numbered_found each n (suc i) lines b.0 b.1 in
-      let same : (a.0 ∷ b.0.0, b.0.1) ≡ y = (let c = b.2 in cc) in
-      subst (λ (z : List X × List Line). (l ∷ lines ≡ numbered_lines line i z.0 ++ z.1) × (length z.0 ≡ suc n) × AllByRecursion IsRight z.0) same
-      (ap (λ (k : Line). k ∷ lines) first.0 ∙ ap (λ (ls : List Line). line i a.0 ∷ ls) (rw add-one rest.0), ap suc rest.1, (first.1, rest.2))
 
 abbrev pub Anything : Part → Type 0
 Anything p = Unit {0}
@@ -216,11 +174,6 @@ block_found v (end ∷ lines) b rest e = absurd (unfold block_at in cc)
 block_found v (other ∷ lines) b rest e = absurd (unfold block_at in cc)
 
 -- ---- the number of lines
-
-pub length-numbered : {X : Type 0} (line : ℕ → X → Line) (i : ℕ) (xs : List X)
-    → length (numbered_lines line i xs) ≡ length xs
-length-numbered line i [] = refl
-length-numbered line i (x ∷ xs) = ap suc (length-numbered line (i + 1) xs)
 
 pub length-block : (v : Version) (b : Block)
     → length (block_lines v b) ≡ 1 + (length b.parts + (length b.inverse + length b.acts))

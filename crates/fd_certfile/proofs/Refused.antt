@@ -1,91 +1,13 @@
 -- A refused line is the first with which no block begins.
-use Rattle.std.proofs.Common.{◌≡◌, ℕ, zero, suc, ◌+◌, ◌-◌, ◌<◌, ◌≤◌, ℤ, pos, List, [], ◌∷◌, ◌++◌, length, replicate, Option, Some, None, Result, Ok, Err, refl, ap, sym, subst, ◌∙◌, arith, add-one}
+use Rattle.std.proofs.Common.{◌≡◌, ℕ, ◌+◌, ◌-◌, ◌≤◌, ℤ, pos, List, [], ◌∷◌, ◌++◌, length, replicate, Result, Ok, Err, refl, ap, sym, subst, ◌∙◌, arith}
 use Rattle.std.specs.List.{AllByRecursion}
 use Rattle.std.proofs.lemmas.List.{append_assoc, length-append, length-replicate}
 use Rattle.fd_certfile.specs.Lines.{Line, header, solution, state, row, act, end, other}
-use Rattle.fd_certfile.specs.Blocks.{Version, Part, Block, count_of, part_line, row_line, numbered_lines, ◌>>=◌, part_at, row_at, or_refused, numbered_at, acts_at, block_at, BeginNoBlock, with_first, BeginsBlock, Refuses}
-use Rattle.fd_certfile.proofs.Blocks.{ReadsAgain, IsFound, IsWide, Anything, anything, numbered_again, numbered_found, part_found, row_line_found, part_again, row_line_again, read_ok, block_again}
-
--- ---- numbered lines
-
-bind_err : {A B : Type 0} (r : Result A (List Line)) (f : A → Result B (List Line)) (d : List Line) (P : Type 0)
-    → (r >>= f) ≡ Err d → (r ≡ Err d → P) → ((x : A) → r ≡ Ok x → f x ≡ Err d → P) → P
-bind_err (Ok x) f d P e at_err at_ok = at_ok x refl e
-bind_err (Err c) f d P e at_err at_ok = at_err cc
-
-made_ok : {B : Type 0} (x : B) (d : List Line) (P : Type 0) → (let r : Result B (List Line) = Ok x in r ≡ Err d) → P
-made_ok x d P e = absurd cc
-
-record Cut {X : Type 0} (read : ℕ → Line → Option X) (line : ℕ → X → Line) (IsRight : X → Type 0) (n i : ℕ)
-    (lines rest : List Line) : Type 0 where
-  xs : List X
-  lines_are : lines ≡ numbered_lines line i xs ++ rest
-  short : length xs < n
-  right : AllByRecursion IsRight xs
-  refused : (more : List Line)
-      → numbered_at read n i (numbered_lines line i xs ++ with_first rest more) ≡ Err (with_first rest more)
-
-module _ {X : Type 0} (read : ℕ → Line → Option X) (line : ℕ → X → Line) (IsRight : X → Type 0) where
-  read_err : (lines : List Line) (o : Option X) (d : List Line) → or_refused lines o ≡ Err d → (o ≡ None) × (lines ≡ d)
-  read_err lines None d e = (refl, cc)
-  read_err lines (Some x) d e = absurd cc
-
-  cut_more : (n i : ℕ) (l : Line) (lines rest : List Line) (x : X) → ReadsAgain read line IsRight
-      → (l ≡ line i x) × IsRight x → Cut read line IsRight n (suc i) lines rest
-      → Cut read line IsRight (suc n) i (l ∷ lines) rest
-  cut_more n i l lines rest x again first k = record {
-    xs = x ∷ k.xs;
-    lines_are = ap (λ (m : Line). m ∷ lines) first.0 ∙ ap (λ (ls : List Line). line i x ∷ ls) (rw add-one k.lines_are);
-    short = omega (arith, k.short);
-    right = (first.1, k.right);
-    refused = λ more.
-        let here = again i x first.1 in
-        let there : numbered_at read n (suc i) (numbered_lines line (suc i) k.xs ++ with_first rest more) ≡ Err (with_first rest more) = k.refused more in
-        rw (here, add-one, there) refl;
-  }
-
-  refused_here : (n i : ℕ) (l : Line) (lines : List Line) → read i l ≡ None
-      → Cut read line IsRight (suc n) i (l ∷ lines) (l ∷ lines)
-  refused_here n i l lines e = record { xs = []; lines_are = refl; short = omega arith; right = tt; refused = λ more. rw e refl }
-
-  numbered_refused : ReadsAgain read line IsRight → IsFound read line IsRight → (n i : ℕ) (lines rest : List Line)
-      → numbered_at read n i lines ≡ Err rest → Cut read line IsRight n i lines rest
-  numbered_refused again found zero i lines rest e = absurd cc
-  numbered_refused again found (suc n) i [] rest e =
-      let same : [] ≡ rest = cc in
-      subst (λ (r : List Line). Cut read line IsRight (suc n) i [] r) same
-      (record { xs = []; lines_are = refl; short = omega arith; right = tt; refused = λ more. refl })
-  numbered_refused again found (suc n) i (l ∷ lines) rest e =
-      let below = λ (h : numbered_at read n (suc i) lines ≡ Err rest). numbered_refused again found n (suc i) lines rest h in
-      bind_err (or_refused (l ∷ lines) (read i l))
-      (λ x. numbered_at read n (suc i) lines >>= λ xs. Ok (x ∷ xs.0, xs.1)) rest _ e (λ failed.
-      let r = read_err (l ∷ lines) (read i l) rest failed in
-      subst (λ (d : List Line). Cut read line IsRight (suc n) i (l ∷ lines) d) r.1 (refused_here n i l lines r.0))
-      (λ x done f.
-      bind_err (numbered_at read n (suc i) lines) (λ xs. Ok (x ∷ xs.0, xs.1)) rest _ f (λ failed.
-      cut_more n i l lines rest x again (found i l x (read_ok (l ∷ lines) (read i l) x done)) (below failed))
-      (λ ys made g. made_ok (x ∷ ys.0, ys.1) rest _ g))
+use Rattle.fd_certfile.specs.Blocks.{Version, Part, Block, count_of, part_line, row_line, numbered_lines, ◌>>=◌, part_at, row_at, numbered_at, acts_at, block_at, BeginNoBlock, with_first, BeginsBlock, Refuses}
+use Rattle.fd_certfile.proofs.Blocks.{IsWide, Anything, anything, part_found, row_line_found, part_again, row_line_again, block_again}
+use Rattle.fd_lines.proofs.CallerLemmas.{bind_err, enumerate-append, filled, made_ok, numbered_again, numbered_found, numbered_refused, right_append, right_replicate}
 
 -- ---- a front that is filled up to a block
-
-enumerate-append : {X : Type 0} (line : ℕ → X → Line) (i : ℕ) (xs ys : List X)
-    → numbered_lines line i (xs ++ ys) ≡ numbered_lines line i xs ++ numbered_lines line (i + length xs) ys
-enumerate-append line i [] ys = ap (λ (k : ℕ). numbered_lines line k ys) (omega arith)
-enumerate-append line i (x ∷ xs) ys =
-    ap (λ (ls : List Line). line i x ∷ ls) (enumerate-append line (i + 1) xs ys
-    ∙ ap (λ (k : ℕ). numbered_lines line (i + 1) xs ++ numbered_lines line k ys) (omega arith))
-
-filled : {X : Type 0} (xs : List X) (x : X) (n : ℕ) → length xs ≤ n → length (xs ++ replicate (n - length xs) x) ≡ n
-filled xs x n h = omega (arith, length-append xs (replicate (n - length xs) x), length-replicate (n - length xs) x)
-
-right_append : {X : Type 0} (P : X → Type 0) (xs ys : List X) → AllByRecursion P xs → AllByRecursion P ys
-    → AllByRecursion P (xs ++ ys)
-right_append P [] ys h k = k
-right_append P (x ∷ xs) ys h k = (h.0, right_append P xs ys h.1 k)
-
-right_replicate : {X : Type 0} (P : X → Type 0) (n : ℕ) (x : X) → P x → AllByRecursion P (replicate n x)
-right_replicate P zero x h = tt
-right_replicate P (suc n) x h = (h, right_replicate P n x h)
 
 zeros : ℕ → List ℤ
 zeros n = replicate n (pos 0)

@@ -1,8 +1,9 @@
 -- A block of a certificate, what it is written as, and how it is read from lines.
-use Rattle.std.specs.Prelude.{◌≡◌, ℕ, zero, suc, ℤ, pos, negsuc, ◌==◌, not, Bool, false, List, [], ◌∷◌, ◌++◌, map, flat_map, length, count_by, Option, Some, None, option_map, option_and_then, Result, Ok, Err, if◌then◌else◌}
+use Rattle.std.specs.Prelude.{◌≡◌, ℕ, zero, suc, ℤ, pos, ◌==◌, not, Bool, List, [], ◌∷◌, ◌++◌, map, flat_map, length, count_by, Option, Some, None, option_map, option_and_then, Result, Ok, Err, if◌then◌else◌}
 use Rattle.std.specs.List.{enumerate_from, AllByRecursion}
 use Rattle.fd_lines.specs.Numbers.{IsNumber}
 use Rattle.fd_certfile.specs.Lines.{Line, solution, state, row, act, bytes_of}
+pub use Rattle.fd_lines.specs.Numbered.{count_of, is_place, is_zero, numbered_at, numbered_lines, or_refused, with_first, ◌>>=◌}
 -- the versions differ in the form of an inverse's rows alone: each entry of a row, or those that aren't 0 with their
 -- places
 pub use Rattle.fd_certfile.specs.declared.version.Version.{Version}
@@ -29,18 +30,6 @@ pub record Block : Type 0 where
   pub inverse : List (List ℤ)
   pub acts : List Act
 
--- a number of things; none for a negative one
-abbrev pub count_of : ℤ → ℕ
-count_of (pos n) = n
-count_of (negsuc n) = 0
-
-abbrev pub is_place : ℕ → ℤ → Bool
-is_place i (pos n) = n == i
-is_place i (negsuc n) = false
-
-abbrev pub is_zero : ℤ → Bool
-is_zero z = is_place 0 z
-
 abbrev pub is_entry : ℤ → Bool
 is_entry z = not (is_zero z)
 
@@ -64,10 +53,6 @@ row_line v i entries = row (pos i ∷ fields_of v entries)
 abbrev pub act_line : Act → Line
 act_line a = act a.time a.control a.steps
 
--- a line for each of these, which are numbered from i on
-abbrev pub numbered_lines : {X : Type 0} → (ℕ → X → Line) → ℕ → List X → List Line
-numbered_lines line i xs = map (λ p. line p.0 p.1) (enumerate_from i xs)
-
 abbrev pub block_lines : Version → Block → List Line
 block_lines v b = solution b.number b.hour b.round b.size
     ∷ (numbered_lines part_line 0 b.parts ++ (numbered_lines (row_line v) 0 b.inverse ++ map act_line b.acts))
@@ -90,11 +75,6 @@ pub record IsWritable (b : Block) : Type 0 where
 
 -- ---- how a block is read: with the lines behind it, or, as a fault, the lines from the first that isn't in the
 -- grammar on
-
-infixl 10 ◌>>=◌
-abbrev pub ◌>>=◌ : {A B : Type 0} → Result A (List Line) → (A → Result B (List Line)) → Result B (List Line)
-(Ok x) >>= f = f x
-(Err rest) >>= f = Err rest
 
 -- n entries from place j on, where their places rise and no entry is 0
 abbrev pub entries_at : ℕ → ℕ → List ℤ → Option (List ℤ)
@@ -125,19 +105,6 @@ part_at i line = None
 abbrev pub row_at : Version → ℕ → ℕ → Line → Option (List ℤ)
 row_at v n i (row (place ∷ fields)) = if is_place i place then row_of v n fields else None
 row_at v n i line = None
-
--- what is read of a line, or these lines are refused
-abbrev pub or_refused : {X : Type 0} → List Line → Option X → Result X (List Line)
-or_refused lines None = Err lines
-or_refused lines (Some x) = Ok x
-
--- the next n lines, which are numbered from i on
-abbrev pub numbered_at : {X : Type 0} → (ℕ → Line → Option X) → ℕ → ℕ → List Line
-    → Result (List X × List Line) (List Line)
-numbered_at read zero i lines = Ok ([], lines)
-numbered_at read (suc n) i [] = Err []
-numbered_at read (suc n) i (line ∷ lines) =
-    or_refused (line ∷ lines) (read i line) >>= λ x. numbered_at read n (suc i) lines >>= λ xs. Ok (x ∷ xs.0, xs.1)
 
 -- acts up to the first line that isn't one
 abbrev pub acts_at : List Line → List Act × List Line
@@ -180,11 +147,6 @@ pub record Spells (v : Version) (lines : List Line) (b : Block) (rest : List Lin
 -- no block begins these lines
 abbrev pub BeginNoBlock : Version → List Line → Type 0
 BeginNoBlock v lines = (b : Block) (rest : List Line) → IsSized b → lines ≡ block_lines v b ++ rest → ⊥
-
--- the first of these lines, if there is one, and then others
-abbrev pub with_first : List Line → List Line → List Line
-with_first [] more = []
-with_first (line ∷ rest) more = line ∷ more
 
 -- some block begins so
 pub record BeginsBlock (v : Version) (front : List Line) : Type 0 where

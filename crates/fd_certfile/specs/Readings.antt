@@ -3,8 +3,9 @@ use Rattle.std.specs.Prelude.{◌≡◌, ◌+◌, ◌-◌, ◌≤◌, ◌⊎◌,
 use Rattle.fd_lines.specs.Numbers.{numbers_of}
 use Rattle.fd_certfile.specs.Lines.{Line}
 use Rattle.fd_certfile.specs.Lines as text
-use Rattle.fd_certfile.specs.Blocks.{Act, ◌>>=◌, numbered_at, Version, Whole, Sparse, Part, part_at, row_at, row_of, is_zero, entries_at, with_count}
+use Rattle.fd_certfile.specs.Blocks.{Act, numbered_at, Version, Whole, Sparse, Part, part_at, row_at, row_of, is_zero, entries_at, with_count}
 use Rattle.fd_lines.specs.Cuts.{first_number}
+pub use Rattle.fd_lines.specs.Numbered.{IsSoFar, RefusedBehind, behind_front}
 use Rattle.fd_certfile.specs.declared.fault.Stop.{Stop}
 use Rattle.fd_certfile.specs.declared.fault.Stop.TheVariants as stop
 use Rattle.std.specs.Option.{option_and_then}
@@ -110,22 +111,11 @@ abbrev pub PushesRow : Bool → List ℤ → List ℤ → Bool → Option (List 
 PushesRow keep old new true read = RowIs keep old new read
 PushesRow keep old new false read = read ≡ None
 
--- the grammar refuses a line behind so many of these
-pub record RefusedBehind {Y : Type 0} (behind : ℕ) (lines : List Line) (read : Result Y (List Line)) : Type 0 where
-  pub rest : List Line
-  pub refused : read ≡ Err rest
-  pub count : length lines ≡ behind + length rest
-
 abbrev pub Fails : {Y : Type 0} → Stop → List Line → Result Y (List Line) → Type 0
 Fails stop.NoMemory lines read = Unit {0}
 Fails (stop.Refused behind) lines read = RefusedBehind behind lines read
 
 -- ---- numbered lines
-
--- these, and then what is read
-abbrev pub behind_front : {X : Type 0} → List X → Result (List X × List Line) (List Line)
-    → Result (List X × List Line) (List Line)
-behind_front front read = read >>= λ xs. Ok (front ++ xs.0, xs.1)
 
 -- the next n lines, as unknowns and as rows
 abbrev pub parts_at : ℕ → List Line → Result (List Part × List Line) (List Line)
@@ -133,13 +123,6 @@ parts_at n lines = numbered_at part_at n 0 lines
 
 abbrev pub rows_at : Version → ℕ → List Line → Result (List (List ℤ) × List Line) (List Line)
 rows_at v n lines = numbered_at (row_at v n) n 0 lines
-
--- what was read so far, and what the lines that are left give, is what all lines give
-pub record IsSoFar {X : Type 0} (read : ℕ → Line → Option X) (n : ℕ) (lines : List Line) (i : ℕ) (front : List X)
-    (rest : List Line) : Type 0 where
-  pub within : i ≤ n
-  pub same : numbered_at read n 0 lines ≡ behind_front front (numbered_at read (n - i) i rest)
-  pub count : length lines ≡ i + length rest
 
 -- so far these lines were read, of which the reader keeps what flat makes of them, or nothing
 pub record IsKeptSoFar {X Y : Type 0} (read : ℕ → Line → Option X) (flat : List X → List Y) (keep : Bool) (n : ℕ)

@@ -5,4 +5,6 @@ pub mod Fields
 pub mod Numerals
 pub mod FewDigits
 pub mod PairTexts
+pub mod Numbered
+pub mod SoFar
 pub mod CallerLemmas

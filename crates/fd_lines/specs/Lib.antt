@@ -1,6 +1,7 @@
 pub mod Numbers
 pub mod Lines
 pub mod Texts
+pub mod Numbered
 pub mod Laws
 pub mod Numerals
 pub mod Cuts

@@ -5,7 +5,8 @@ use Rattle.fd_certfile.specs.Lines.{lines_of}
 use Rattle.fd_certfile.specs.Blocks.{count_of, is_place, part_at, row_at, numbered_at}
 use Rattle.fd_certfile.specs.Readings.{Fails, cells_of, kept}
 use Rattle.fd_certfile.specs.declared.ahead.Ahead.{Ahead}
-use Rattle.fd_certfile.proofs.BlockReading.{ahead_is, before_fits, parts_fail, parts_lines, rows_fail, length-lines_of, numbered_left}
+use Rattle.fd_certfile.proofs.BlockReading.{ahead_is, before_fits, parts_fail, parts_lines, rows_fail, length-lines_of}
+use Rattle.fd_lines.proofs.CallerLemmas.{numbered_left}
 use Rattle.fd_certfile.proofs.ahead.body.Goals as goal
 
 pub moved-requires : goal.moved-requires
