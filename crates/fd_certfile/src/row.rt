@@ -12,7 +12,7 @@ ghost use Rattle.fd_certfile.specs.Views.{view};
 use crate::cells::Cells;
 use crate::line::Line;
 use crate::version::Version;
-use fd_lines::{Fields, first, short_pair};
+use fd_lines::{Fields, first, pair, short_pair};
 use std::alloc::AllocError;
 
 /// Whether a number is that of this place.
@@ -57,21 +57,6 @@ fn push_gap(cells: &mut Cells, keep: bool, count: u64) -> Result<(), AllocError>
         push_zeros(cells, count)?;
     }
     Ok(())
-}
-
-// The numbers of the first two fields, and the other fields.
-fn pair(fields: Fields<'_>) -> Option<(i128, i128, Fields<'_>)>
-    ensures some { IfSome result (λ p. numbers_of (texts_of (option_map (λ t. t.now) fields.entry))
-        ≡ option_map (λ zs. p.0 ∷ p.1 ∷ zs) (numbers_of (texts_of (option_map (λ t. t.now) p.2)))) }
-    ensures none { IfNone result ((zs : List ℤ) → numbers_of (texts_of (option_map (λ t. t.now) fields.entry)) ≡ Some zs → length zs < 2) }
-{
-    match first(fields) {
-        Some((place, more)) => match first(more) {
-            Some((entry, rest)) => Some((place, entry, rest)),
-            None => None,
-        },
-        None => None,
-    }
 }
 
 // Adds an entry at its place in a row of so many, where entries are kept, with zeros before it from the place on that

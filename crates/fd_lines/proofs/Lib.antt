@@ -5,6 +5,7 @@ pub mod Fields
 pub mod Numerals
 pub mod FewDigits
 pub mod PairTexts
+pub mod WordLines
 pub mod Numbered
 pub mod SoFar
 pub mod CallerLemmas

@@ -1,5 +1,5 @@
 // The fields of a line: numbers behind one blank each, read without memory.
-ghost use Rattle.std.specs.Prelude.{◌≡◌, ◌∷◌};
+ghost use Rattle.std.specs.Prelude.{◌≡◌, ◌<◌, ◌∷◌, List, Some, ℤ, length, IfNone, IfSome};
 ghost use Rattle.std.specs.List.{slice_split};
 ghost use Rattle.std.specs.Option.{option_map};
 ghost use Rattle.fd_lines.specs.Cuts.{texts_of, first_number, four_of, one_of, three_of, two_of};
@@ -53,6 +53,21 @@ pub fn first(fields: Fields<'_>) -> Option<(i128, Fields<'_>)>
         Some(text) => match short(text) {
             Some((number, rest)) => Some((i128::from(number), rest)),
             None => found_apart(text),
+        },
+        None => None,
+    }
+}
+
+/// The numbers of the first two fields, and the other fields.
+pub fn pair(fields: Fields<'_>) -> Option<(i128, i128, Fields<'_>)>
+    ensures some { IfSome result (λ p. numbers_of (texts_of (option_map (λ t. t.now) fields.entry))
+        ≡ option_map (λ zs. p.0 ∷ p.1 ∷ zs) (numbers_of (texts_of (option_map (λ t. t.now) p.2)))) }
+    ensures none { IfNone result ((zs : List ℤ) → numbers_of (texts_of (option_map (λ t. t.now) fields.entry)) ≡ Some zs → length zs < 2) }
+{
+    match first(fields) {
+        Some((place, more)) => match first(more) {
+            Some((entry, rest)) => Some((place, entry, rest)),
+            None => None,
         },
         None => None,
     }

@@ -8,6 +8,7 @@
 //! - `number`: the number that a field spells
 //! - `short`: numbers of few digits
 //! - `field`: the fields of a line
+//! - `line`: a line by its word and its fields
 //! - `texts`: the texts of lines
 //! - `laws`: laws of numbers
 #![tactic(auto)]
@@ -15,13 +16,15 @@
 mod cutting;
 mod field;
 mod laws;
+mod line;
 mod number;
 mod short;
 mod texts;
 
 pub use cutting::cut;
-pub use field::{Fields, first, four, one, parted, three};
+pub use field::{Fields, first, four, one, pair, parted, three};
 pub use laws::number_law;
+pub use line::{Line, fields_by, read_line};
 pub use short::short_pair;
 pub use texts::{
     line_record, push_count, push_field, push_number, push_numbers, push_pair, text_record,

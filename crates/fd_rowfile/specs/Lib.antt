@@ -1,0 +1,5 @@
+pub mod Blocks
+pub mod Views
+pub mod Written
+pub use Rattle.fd_lines.specs as fd_lines
+pub use Rattle.fd_derived.specs as fd_derived

@@ -1,0 +1,19 @@
+//! The text of a block of a certificate of version 3, whose proof is derived rows (`fd_derived`).
+//!
+//! A block is written as its lines, one record each (`write_block`).
+//!
+//! - `data`: what a block has, as numbers
+//! - `texts`: the texts of lines
+//! - `write`: the lines of a block
+#![tactic(auto)]
+
+mod data;
+mod texts;
+mod write;
+
+pub use data::{Act, Part};
+pub use write::write_block;
+
+// Handed on from the crates below.
+pub use fd_derived::{Claim, Entry, Row};
+pub use fd_lines::Record;
