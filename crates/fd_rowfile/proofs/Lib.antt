@@ -1,2 +1,5 @@
 pub mod RowTexts
 pub mod Writing
+pub mod PairsTaken
+pub mod Pivots
+pub mod RowEnds

@@ -3,15 +3,23 @@
 //! A block is written as its lines, one record each (`write_block`).
 //!
 //! - `data`: what a block has, as numbers
+//! - `stop`: why no block was read
+//! - `pairs`: pairs of a row
+//! - `rows`: rows
 //! - `texts`: the texts of lines
 //! - `write`: the lines of a block
 #![tactic(auto)]
 
 mod data;
+mod pairs;
+mod rows;
+mod stop;
 mod texts;
 mod write;
 
 pub use data::{Act, Part};
+pub use rows::HeldRow;
+pub use stop::Stop;
 pub use write::write_block;
 
 // Handed on from the crates below.
