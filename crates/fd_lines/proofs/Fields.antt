@@ -1,5 +1,5 @@
 -- Numbers behind one blank each.
-use Rattle.std.proofs.Common.{◌≡◌, ℕ, ◌<◌, ℤ, List, [], ◌∷◌, ◌++◌, length, ◌⊎◌, inl, inr, Option, Some, None, refl, ap, sym, ◌∙◌, arith}
+use Rattle.std.proofs.Common.{◌≡◌, ℕ, ◌<◌, ℤ, List, [], ◌∷◌, ◌++◌, length, ◌⊎◌, inl, inr, Bool, true, false, Option, Some, None, is_some, refl, ap, sym, ◌∙◌, arith}
 use Rattle.std.specs.Prelude.{option_map}
 use Rattle.std.specs.Option.{option_and_then}
 use Rattle.std.specs.List.{slice_split}
@@ -75,3 +75,38 @@ pub one_more : (fs : List (List ℕ)) (z : ℤ) (text : List ℕ) → Some (z, s
     → None ≡ one_of (numbers_of fs)
 one_more fs z text e =
     sym (ap one_of (first_some fs z (slice_split is_blank text) e) ∙ some_field (λ o. one_of (option_map (λ zs. z ∷ zs) o)) None refl (λ y zs. refl) text)
+
+-- ---- whether all fields spell numbers
+
+pub first_all : (fs : List (List ℕ)) (z : ℤ) (ts : List (List ℕ)) → Some (z, ts) ≡ first_number fs
+    → is_some (numbers_of fs) ≡ is_some (numbers_of ts)
+first_all fs z ts e = ap is_some (first_some fs z ts e) ∙ mapped (numbers_of ts)
+  where
+    mapped : (o : Option (List ℤ)) → is_some (option_map (λ zs. z ∷ zs) o) ≡ is_some o
+    mapped None = refl
+    mapped (Some zs) = refl
+
+pub first_fails : (text : List ℕ) → None ≡ first_number (slice_split is_blank text)
+    → is_some (numbers_of (slice_split is_blank text)) ≡ false
+first_fails text e = at (slice_split is_blank text) (omega (arith, length-slice_split is_blank text)) e
+  where
+    at : (fs : List (List ℕ)) → 0 < length fs → None ≡ first_number fs → is_some (numbers_of fs) ≡ false
+    at [] l e = absurd (omega (arith, l))
+    at (t ∷ ts) l e = elim (first_none (t ∷ ts) e) [ inl none ↦ ap is_some none | inr nil ↦ absurd (no_nil (number_of t) (numbers_of ts) nil) ]
+      where
+        no_nil : (o : Option ℤ) (p : Option (List ℤ)) → option_and_then (λ z. option_map (λ zs. z ∷ zs) p) o ≡ Some [] → ⊥
+        no_nil None p f = cc
+        no_nil (Some z) None f = cc
+        no_nil (Some z) (Some zs) f = cc
+
+pub first_shorter : (fs : List (List ℕ)) (z : ℤ) (ts : List (List ℕ)) → Some (z, ts) ≡ first_number fs
+    → length ts < length fs
+first_shorter [] z ts e = absurd cc
+first_shorter (t ∷ us) z ts e = at (number_of t) e
+  where
+    at : (o : Option ℤ) → ◌≡◌ {A = Option (ℤ × List (List ℕ))} (Some (z, ts)) (option_map (λ y. (y, us)) o) → length ts < length (t ∷ us)
+    at None e = absurd cc
+    at (Some y) e =
+        let same : (z, ts) ≡ (y, us) = cc in
+        let long : length ts ≡ length us = ap (λ (p : ℤ × List (List ℕ)). length p.1) same in
+        omega (arith, long)

@@ -1,5 +1,5 @@
 // The fields of a line: numbers behind one blank each, read without memory.
-ghost use Rattle.std.specs.Prelude.{◌≡◌, ◌<◌, ◌∷◌, List, Some, ℤ, length, IfNone, IfSome};
+ghost use Rattle.std.specs.Prelude.{◌≡◌, ◌<◌, ◌∷◌, List, Some, ℤ, is_some, length, IfNone, IfSome};
 ghost use Rattle.std.specs.List.{slice_split};
 ghost use Rattle.std.specs.Option.{option_map};
 ghost use Rattle.fd_lines.specs.Cuts.{texts_of, first_number, four_of, one_of, three_of, two_of};
@@ -122,4 +122,18 @@ pub fn four(fields: Fields<'_>) -> Option<(i128, i128, i128, i128)>
         },
         None => None,
     }
+}
+
+/// Whether each field spells a number.
+pub fn are_numbers(fields: Fields<'_>) -> bool
+    ensures { result ≡ is_some (numbers_of (texts_of (option_map (λ t. t.now) fields.entry))) }
+{
+    let mut rest = fields;
+    while let Some(text) = rest {
+        match first(Some(text)) {
+            Some((_number, more)) => rest = more,
+            None => return false,
+        }
+    }
+    true
 }

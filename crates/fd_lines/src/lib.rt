@@ -22,9 +22,9 @@ mod short;
 mod texts;
 
 pub use cutting::cut;
-pub use field::{Fields, first, four, one, pair, parted, three};
+pub use field::{Fields, are_numbers, first, four, one, pair, parted, three};
 pub use laws::number_law;
-pub use line::{Line, fields_by, read_line};
+pub use line::{Line, fields_by, next_line, read_line};
 pub use short::short_pair;
 pub use texts::{
     line_record, push_count, push_field, push_number, push_numbers, push_pair, text_record,

@@ -1,10 +1,11 @@
 // Lines by their word and their fields.
-ghost use Rattle.std.specs.Prelude.{◌≡◌, None, IfNone, IfSome};
+ghost use Rattle.std.specs.Prelude.{◌≡◌, ◌∷◌, None, IfNone, IfSome};
 ghost use Rattle.std.specs.Option.{option_map};
 ghost use Rattle.fd_lines.specs.Numbers.{text_eq};
-ghost use Rattle.fd_lines.specs.WordLines.{line_of, numbers_by, numbers_in, view};
+ghost use Rattle.fd_lines.specs.WordLines.{line_of, lines_of, numbers_by, numbers_in, rest_of, view};
 
-use crate::field::{Fields, first, parted};
+use crate::cutting::cut;
+use crate::field::{Fields, parted};
 
 /// A line: its word, and its fields, which are left to be read.
 #[derive(Clone, Copy, Drop)]
@@ -21,6 +22,18 @@ pub fn read_line(text: &[u8]) -> Line<'_>
 {
     let (word, fields) = parted(text);
     Line { word, fields }
+}
+
+/// The next line of bytes, and the bytes behind it; none, where no line feed is left.
+#[tactic(auto, using(crate::proofs::WordLines::lines_cut, crate::proofs::WordLines::of_last))]
+pub fn next_line(bytes: &[u8]) -> Option<(Line<'_>, &[u8])>
+    ensures some { IfSome result (λ p. lines_of bytes.now ≡ view p.0 ∷ lines_of p.1.now) }
+    ensures none { IfNone result (lines_of bytes.now ≡ rest_of bytes.now) }
+{
+    match cut(bytes, b'\n') {
+        Some((text, more)) => Some((read_line(text), more)),
+        None => None,
+    }
 }
 
 fn is_word(word: &[u8], name: &[u8]) -> bool

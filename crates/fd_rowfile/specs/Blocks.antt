@@ -3,7 +3,7 @@ use Rattle.std.specs.Prelude.{◌≡◌, ℕ, zero, suc, ℤ, pos, negsuc, ◌==
 use Rattle.std.specs.List.{AllByRecursion}
 use Rattle.fd_derived.specs.fd_factors.Factors.{DerivedRow}
 use Rattle.fd_lines.specs.Cuts.{four_of, one_of, three_of}
-use Rattle.fd_lines.specs.Numbered.{count_of, is_place, is_zero, numbered_at, numbered_lines, or_refused, ◌>>=◌}
+pub use Rattle.fd_lines.specs.Numbered.{count_of, is_place, is_zero, numbered_at, numbered_lines, or_refused, ◌>>=◌}
 use Rattle.fd_lines.specs.WordLines.{Line, bytes_of, line, numbers_by}
 
 -- what is claimed of an unknown and its row, in whole microvolts or microamperes
@@ -217,6 +217,12 @@ abbrev pub rows_at : ℕ → ℕ → List Line → Result (List Row × List Line
 rows_at n i [] = Ok ([], [])
 rows_at n i (l ∷ lines) = if_some (row_in l) (Ok ([], l ∷ lines)) (λ numbers.
     or_refused (l ∷ lines) (placed_row n i numbers) >>= λ r. rows_at n (suc i) lines >>= λ rs. Ok (r ∷ rs.0, rs.1))
+
+-- the row of the first line and the others; none, where it is no row line
+abbrev pub row_step : ℕ → ℕ → List Line → Result (Option (Row × List Line)) (List Line)
+row_step n i [] = Ok None
+row_step n i (l ∷ lines) =
+    if_some (row_in l) (Ok None) (λ numbers. or_refused (l ∷ lines) (placed_row n i numbers) >>= λ r. Ok (Some (r, lines)))
 
 -- acts up to the first line that isn't one
 abbrev pub acts_at : List Line → List Act × List Line

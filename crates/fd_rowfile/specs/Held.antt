@@ -5,7 +5,9 @@ use Rattle.fd_derived.specs.Rows.{derived_row}
 use Rattle.fd_derived.specs.fd_factors.Factors.{DerivedRow}
 use Rattle.fd_lines.specs.Numbered.{count_of}
 use Rattle.fd_lines.specs.WordLines.{Line, lines_of}
-use Rattle.fd_rowfile.specs.Blocks.{Row, is_anywhere, is_below, is_beside, is_next}
+use Rattle.fd_rowfile.specs.Blocks.{Block, Row, is_anywhere, is_below, is_beside, is_next}
+use Rattle.fd_rowfile.specs.Views.{act, bound, head, part}
+use Rattle.fd_rowfile.specs.declared.block.HeldBlock.{HeldBlock}
 use Rattle.fd_rowfile.specs.declared.pairs.Fit.{Fit}
 use Rattle.fd_rowfile.specs.declared.pairs.Fit.TheVariants as the
 use Rattle.fd_rowfile.specs.declared.rows.HeldRow.{HeldRow}
@@ -73,12 +75,37 @@ pub record IsRowOf (read : Option Row) (held : HeldRow) : Type 0 where
   pub same : read ≡ Some row
   pub held_is : held_row held ≡ clipped_row row
 
+-- the row of the first of these lines is read and held
+pub record IsRowStep (step : Result (Option (Row × List Line)) (List Line)) (held : HeldRow) (rest : List Line) : Type 0 where
+  pub row : Row
+  pub same : step ≡ Ok (Some (row, rest))
+  pub held_is : held_row held ≡ clipped_row row
+
 -- ---- lines
 
--- an answer, of which what it holds and the lines behind it are seen, is what the grammar reads of lines; or it names the
--- lines from the first on that the grammar refuses
-abbrev pub Gives : {X Z : Type 0} → (X → Z → Type 0) → (Z → List Line) → Result Z Stop
-    → Result (X × List Line) (List Line) → Type 0
-Gives {X} Holds rest (Ok z) read = (x : X) × (read ≡ Ok (x, rest z)) × Holds x z
-Gives Holds rest (Err stop.NoMemory) read = Unit {0}
-Gives Holds rest (Err (stop.Refused at)) read = read ≡ Err (lines_of at.now)
+-- why nothing was read: want of memory, or the grammar refuses lines from the first of these on
+abbrev pub Stops : {Y : Type 0} → Stop → Result Y (List Line) → Type 0
+Stops stop.NoMemory read = Unit {0}
+Stops (stop.Refused at) read = read ≡ Err (lines_of at.now)
+
+-- an answer, of which this is seen, is what the grammar reads
+abbrev pub Reads : {Y Z : Type 0} → (Z → Y) → Result Z Stop → Result Y (List Line) → Type 0
+Reads seen (Ok z) read = read ≡ Ok (seen z)
+Reads seen (Err e) read = Stops e read
+
+-- rows that are read and held, and the lines behind them
+pub record AreRows (read : Result (List Row × List Line) (List Line)) (held : List HeldRow) (rest : List Line) : Type 0 where
+  pub rows : List Row
+  pub same : read ≡ Ok (rows, rest)
+  pub held_are : map held_row held ≡ map clipped_row rows
+
+-- a block that is read and held, and the lines behind it
+pub record IsBlock (read : Result (Block × List Line) (List Line)) (held : HeldBlock) (rest : List Line) : Type 0 where
+  pub block : Block
+  pub same : read ≡ Ok (block, rest)
+  pub head_is : head held.head ≡ (block.number, block.hour, block.round, block.size)
+  pub divisor : held.divisor ≡ block.divisor
+  pub parts : map part held.parts.items ≡ block.parts
+  pub rows : map held_row held.rows.items ≡ map clipped_row block.rows
+  pub bounds : map bound held.bounds.items ≡ block.bounds
+  pub acts : map act held.acts.items ≡ block.acts

@@ -4,20 +4,25 @@
 //!
 //! - `data`: what a block has, as numbers
 //! - `stop`: why no block was read
+//! - `block`: a block as it is held
+//! - `lines`: the lines of a block, each read of bytes
 //! - `pairs`: pairs of a row
 //! - `rows`: rows
 //! - `texts`: the texts of lines
 //! - `write`: the lines of a block
 #![tactic(auto)]
 
+mod block;
 mod data;
+mod lines;
 mod pairs;
 mod rows;
 mod stop;
 mod texts;
 mod write;
 
-pub use data::{Act, Part};
+pub use block::HeldBlock;
+pub use data::{Act, Bound, Head, Part};
 pub use rows::HeldRow;
 pub use stop::Stop;
 pub use write::write_block;
