@@ -45,5 +45,6 @@ pub use widening::{Widened, agreement_law, widen, widening_law};
 
 // Handed on from the crates below.
 pub use fd_enclosure::{
-    NetworkRows, ball_law, certificate_law, enclosure_law, linear_law, tie_law,
+    Cell, Matrix, NetworkRows, PlaceKind, ball_law, certificate_law, enclosure_law, linear_law,
+    tie_law,
 };

@@ -1,0 +1,4 @@
+pub mod Cells
+pub mod CellRows
+pub mod Lists
+pub mod Loading

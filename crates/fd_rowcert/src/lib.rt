@@ -1,0 +1,8 @@
+// Certificates by derived rows of a state of a network.
+#![tactic(auto)]
+
+mod entries;
+mod equations;
+
+pub use entries::row_entries;
+pub use equations::{equations_of, set_radii};
