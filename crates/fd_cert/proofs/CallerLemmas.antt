@@ -1,7 +1,4 @@
 -- The lemmas that this crate hands on.
-pub use Rattle.fd_cert.proofs.SlopeRadii.{boxes_are, have_widths, weights_at}
-pub use Rattle.fd_cert.proofs.Wider.{of_sized, of_inverse}
-pub use Rattle.fd_enclosure.proofs.CallerLemmas as fd_enclosure
-pub use Rattle.fd_cert.proofs.SlopeRadii.{boxes_are, have_widths, weights_at}
-pub use Rattle.fd_cert.proofs.Wider.{of_sized, of_inverse}
+pub use Rattle.fd_cert.proofs.SlopeRadii.{are_weights, boxes_are, have_widths, is_made, jacobian_made, weights_at}
+pub use Rattle.fd_cert.proofs.Wider.{of_inverse, of_sized}
 pub use Rattle.fd_enclosure.proofs.CallerLemmas as fd_enclosure

@@ -2,3 +2,6 @@ pub mod Cells
 pub mod CellRows
 pub mod Lists
 pub mod Loading
+pub mod Numbers
+pub mod Written
+pub mod Showing

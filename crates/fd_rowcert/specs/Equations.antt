@@ -1,5 +1,6 @@
 -- The equations of a state of a network: the entries of its Jacobian, the radii of its slopes in a box, and its mismatches.
-use Rattle.std.specs.Prelude.{◌≡◌, ℕ, ◌<◌, ◌^◌, ℤ, pos, Bool, List, [], length, map, get_or, Option, Some, None, Result, Ok, Err}
+use Rattle.std.specs.Prelude.{◌≡◌, ℕ, ◌<◌, ◌≤◌, ◌^◌, ℤ, pos, Bool, List, [], length, map, get_or, Option, Some, None, Result, Ok, Err}
+use Rattle.std.specs.Option.{option_or}
 use Rattle.fd_cert.specs.fd_enclosure.Radii.{part_radius}
 use Rattle.fd_cert.specs.fd_enclosure.Sound.{right_side}
 use Rattle.fd_cert.specs.fd_enclosure.fd_equations.Rounded.{jacobian_entry}
@@ -58,9 +59,24 @@ Tells first (Err b) P = first ≡ Some b
 abbrev pub AreEquationsOf : NetworkView → ℕ → List ℤ → List ℕ → List Equation → Type 0
 AreEquationsOf v parts x e es = AreEquations v.size (jacobian_entry v x) (part_radius parts v x) e es
 
+-- nothing stands in rows behind the last of n
+abbrev pub EndsBy : ℕ → (ℕ → ℕ → ℤ) → Type 0
+EndsBy n J = (l j : ℕ) → n ≤ l → J l j ≡ pos 0
+
+-- the radii of slopes in the box of w / parts
+abbrev pub radii_by : ℕ → NetworkView → List ℤ → ℕ → ℕ → ℤ
+radii_by parts v x = radii_in (part_radius parts v x)
+
+-- the first row whose entries of the Jacobian are past 2^62 together; else the first whose radii are
+abbrev pub first_wide_slopes : ℕ → NetworkView → List ℤ → Option ℕ
+first_wide_slopes parts v x = option_or (first_wide v.size (jacobian_entry v x)) (first_wide v.size (radii_by parts v x))
+
 -- the numbers of equations are these, at all places
 pub record HaveNumbers (n : ℕ) (J : ℕ → ℕ → ℤ) (R : ℕ → ℕ → ℕ) (e : List ℕ) (es : List Equation) : Type 0 where
   pub long : length es ≡ n
   pub coefficients : (l j : ℕ) → coefficient es l j ≡ J l j
   pub radii : (l j : ℕ) → radius es l j ≡ R l j
   pub right_sides : (l : ℕ) → right_side_at es l ≡ right_side e l
+
+abbrev pub HaveNumbersOf : NetworkView → ℕ → List ℤ → List ℕ → List Equation → Type 0
+HaveNumbersOf v parts x e es = HaveNumbers v.size (jacobian_entry v x) (part_radius parts v x) e es

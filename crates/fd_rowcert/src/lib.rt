@@ -3,6 +3,8 @@
 
 mod entries;
 mod equations;
+mod state;
 
 pub use entries::row_entries;
 pub use equations::{equations_of, set_radii};
+pub use state::{InBox, set_box, state_equations};
