@@ -1,5 +1,6 @@
 mod Placing
 mod Rounds
+mod Least
 mod Behind
 mod Taking
 mod Phases

@@ -249,11 +249,11 @@ module _ (count : ℕ) (feeds : List Feed) where
     pub levels_are : (b : ℕ) → level_in levels b ≡ level_by count feeds n b
     pub front_is : (b : ℕ) → list_any (nat_eq b) front ≡ is_level n (level_by count feeds n b)
 
-  level_zero : (b : ℕ) → level_by count feeds 0 b ≡ given_where (nat_le b count && list_any (nat_eq b) (starts count feeds)) 0
+  pub level_zero : (b : ℕ) → level_by count feeds 0 b ≡ given_where (nat_le b count && list_any (nat_eq b) (starts count feeds)) 0
   unfolding level_by
   level_zero b = refl
 
-  level_suc : (n b : ℕ) → level_by count feeds (suc n) b
+  pub level_suc : (n b : ℕ) → level_by count feeds (suc n) b
       ≡ or_level (level_by count feeds n b) (given_where (nat_le b count && is_led feeds (λ near. is_level n (level_by count feeds n near)) b) (suc n))
   unfolding level_by
   level_suc n b = refl

@@ -1,5 +1,6 @@
 pub mod Feeds
 pub mod Levels
+pub mod LevelLaws
 pub mod Marking
 pub mod Order
 pub mod Grouping

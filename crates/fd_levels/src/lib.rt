@@ -12,6 +12,7 @@
 //! - `group`: pairs by levels
 //! - `once`: whether each unknown and each equation has one pair
 //! - `answer`: `order`, all pairs in order
+//! - `laws`: levels are least numbers
 //! - `fault`: why there is no order
 #![tactic(auto)]
 
@@ -20,9 +21,11 @@ mod buses;
 mod fault;
 mod feed;
 mod group;
+mod laws;
 mod levels;
 mod once;
 mod sides;
 
 pub use answer::order;
 pub use fault::OrderFault;
+pub use laws::level_law;
