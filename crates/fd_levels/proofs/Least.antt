@@ -10,7 +10,7 @@ use Rattle.fd_levels.specs.LevelLaws.{LevelLaw, is_led_by}
 use Rattle.fd_levels.specs.declared.feed.Feed.{Feed}
 use Rattle.fd_levels.proofs.Rounds.{given_where, level_suc, level_zero}
 
-same_level : (n : ℕ) → (n == n) ≡ true
+pub same_level : (n : ℕ) → (n == n) ≡ true
 same_level n = grind (arith, nat_tests)
 
 -- the first number up to n is n where no smaller one is
@@ -54,7 +54,7 @@ module _ (count : ℕ) (feeds : List Feed) where
       head false is =
           ap (λ p. p && is_level n (level_by count feeds n f.near)) is ∙ ap (λ p. p && is_led_by count feeds n f.near) (sym is)
 
-  least_by : (n b : ℕ) → level_by count feeds n b ≡ first_place (λ k. is_led_by count feeds k b) (suc n)
+  pub least_by : (n b : ℕ) → level_by count feeds n b ≡ first_place (λ k. is_led_by count feeds k b) (suc n)
   least_by zero b = level_zero count feeds b
   least_by (suc n) b =
       level_suc count feeds n b

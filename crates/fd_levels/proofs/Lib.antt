@@ -1,6 +1,7 @@
 mod Placing
 mod Rounds
 mod Least
+mod Last
 mod Behind
 mod Taking
 mod Phases

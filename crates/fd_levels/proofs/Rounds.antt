@@ -103,7 +103,7 @@ later_other b = grind (arith, nat_tests)
 both_next : (b bus : ℕ) → nat_eq (suc b) (suc bus) ≡ nat_eq b bus
 both_next b bus = grind (arith, nat_tests)
 
-level_or_none : (x : Option ℕ) → x ≡ or_level x None
+pub level_or_none : (x : Option ℕ) → x ≡ or_level x None
 level_or_none None = refl
 level_or_none (Some n) = refl
 
@@ -221,7 +221,7 @@ only_none P never (Some level) h = absurd (never level h)
 
 -- ---- levels of rounds
 
-and_none : (a : Bool) → (a && false) ≡ false
+pub and_none : (a : Bool) → (a && false) ≡ false
 and_none true = refl
 and_none false = refl
 
@@ -259,7 +259,7 @@ module _ (count : ℕ) (feeds : List Feed) where
   level_suc n b = refl
 
   -- there are no buses behind ground
-  level_past : (n b : ℕ) → nat_le b count ≡ false → level_by count feeds n b ≡ None
+  pub level_past : (n b : ℕ) → nat_le b count ≡ false → level_by count feeds n b ≡ None
   level_past zero b past =
       level_zero b ∙ ap (λ low. given_where (low && list_any (nat_eq b) (starts count feeds)) 0) past
   level_past (suc n) b past =
@@ -277,7 +277,7 @@ module _ (count : ℕ) (feeds : List Feed) where
   or_below (Some l) y k h i = h
 
   -- no level is above that of the round
-  level_below : (n k b : ℕ) → n < k → is_level k (level_by count feeds n b) ≡ false
+  pub level_below : (n k b : ℕ) → n < k → is_level k (level_by count feeds n b) ≡ false
   level_below zero k b below =
       ap (is_level k) (level_zero b) ∙ given_below (nat_le b count && list_any (nat_eq b) (starts count feeds)) 0 k below
   level_below (suc n) k b below =

@@ -12,7 +12,7 @@
 //! - `group`: pairs by levels
 //! - `once`: whether each unknown and each equation has one pair
 //! - `answer`: `order`, all pairs in order
-//! - `laws`: levels are least numbers
+//! - `laws`: levels are least numbers, and none is above the number of buses
 //! - `fault`: why there is no order
 #![tactic(auto)]
 
@@ -28,4 +28,4 @@ mod sides;
 
 pub use answer::order;
 pub use fault::OrderFault;
-pub use laws::level_law;
+pub use laws::{last_level_law, level_law};
