@@ -9,8 +9,8 @@ use std::alloc::{AllocError, AllocFailed};
 pub enum OrderFault {
     /// The circuit isn't radial: the element of this number, in order of definition, is the first that offends.
     NotRadial(u32),
-    /// Some unknown or some equation has no pair: a node that isn't fed, or an element with other buses than its phases
-    /// need. The tests of Solve name these.
+    /// Not each unknown and each equation has one pair, as where a node isn't fed, or the buses of an element have fewer
+    /// nodes than its phases need.
     Unpaired,
     /// Want of memory.
     NoMemory,
