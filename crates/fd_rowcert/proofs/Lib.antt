@@ -3,5 +3,6 @@ pub mod CellRows
 pub mod Lists
 pub mod Loading
 pub mod Numbers
+pub mod Found
 pub mod Written
 pub mod Showing

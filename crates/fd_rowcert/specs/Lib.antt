@@ -1,5 +1,6 @@
 pub mod Entries
 pub mod Equations
+pub mod Rechecks
 pub use Rattle.fd_cert.specs as fd_cert
 pub use Rattle.fd_bounds.specs as fd_bounds
 pub use Rattle.fd_triangles.specs as fd_triangles

@@ -1,0 +1,6 @@
+use Rattle.std.proofs.Common.{◌≡◌, ℕ, ◌<◌, ◌^◌, nat_abs, nat_lt, false, get_or}
+use Rattle.fd_rowcert.specs.Rechecks.{is_narrow}
+use Rattle.fd_rowcert.proofs.ranges.first_narrow.Given as goal
+
+abbrev pub invariant-loop-unknown : goal.invariant-loop-unknown
+invariant-loop-unknown l = (k : ℕ) → k < l.unknown → is_narrow l.bounds l.radius k ≡ false
