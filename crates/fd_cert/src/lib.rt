@@ -38,7 +38,7 @@ pub use ball::{Ball, Certified, DerivedRows, Support};
 pub use boxes::half_widths;
 pub use certificate::{certify, radii_at};
 pub use fault::CertFault;
-pub use mismatches::{first_loose, mismatches as row_mismatches};
+pub use mismatches::{first_loose, first_untrue, mismatches as row_mismatches};
 pub use rechecking::{boxed, recheck};
 pub use rule::{Broken, Rule};
 pub use widening::{Widened, agreement_law, widen, widening_law};

@@ -5,4 +5,6 @@ pub mod Loading
 pub mod Numbers
 pub mod Found
 pub mod Written
+pub mod Numbered
+pub mod Firsts
 pub mod Showing

@@ -77,28 +77,34 @@ abbrev pub first_of_rows : Option Refusal → List ℕ → List ℕ → ℕ → 
 first_of_rows (Some r) bounds radii n = Some (refused_by r)
 first_of_rows None bounds radii n = broken_at broken.Radius (first_place (is_narrow bounds radii) n) None
 
-module _ (v : NetworkView) (x : List ℤ) (r e : List ℕ) (d : DerivedRows) where
-  -- of the numbers of a claim, and of its mismatches
-  unfoldable pub first_of_numbers : Option BrokenRow
-  first_of_numbers =
-      cond (has_size v.size x r e d.claim)
-      (cond (is_box d.parts)
-      (broken_at broken.Range (first_place (is_far_at x r) v.size)
-      (broken_at broken.RowRange (first_place (is_large_at d.claim) (length d.claim.rows.items))
-      (broken_at broken.BoundRange (first_place (is_high_at d.claim.bounds.items) v.size)
-      (broken_at broken.Mismatch (first_place (λ l. is_untrue (mismatch_at v x l) (number_at e l)) v.size) None))))
-      (Some broken.Box))
-      (Some broken.Size)
+-- of the numbers of a claim on n unknowns
+unfoldable pub first_of_ranges : ℕ → List ℤ → List ℕ → List ℕ → DerivedRows → Option BrokenRow
+first_of_ranges n x r e d =
+    cond (has_size n x r e d.claim)
+    (cond (is_box d.parts)
+    (broken_at broken.Range (first_place (is_far_at x r) n)
+    (broken_at broken.RowRange (first_place (is_large_at d.claim) (length d.claim.rows.items))
+    (broken_at broken.BoundRange (first_place (is_high_at d.claim.bounds.items) n) None)))
+    (Some broken.Box))
+    (Some broken.Size)
 
-  -- and of its rows: there are no equations, or it is what the state's equations in the box tell
+-- the first row whose mismatch is below the state's own, or above the greatest
+abbrev pub first_untrue : NetworkView → List ℤ → List ℕ → Option ℕ
+first_untrue v x e = first_place (λ l. is_untrue (mismatch_at v x l) (number_at e l)) v.size
+
+module _ (v : NetworkView) (x : List ℤ) (r e : List ℕ) (d : DerivedRows) where
+  -- of the rows of a claim: there are no equations, or it is what the state's equations in the box tell
   pub data IsFirstOfState (o : Option BrokenRow) : Type 0 where
     wide : (row : ℕ) → first_wide_slopes d.parts v x ≡ Some row → o ≡ Some (broken.Slopes row) → IsFirstOfState o
     told : (es : List Equation) → first_wide_slopes d.parts v x ≡ None → AreEquationsOf v d.parts x e es
         → o ≡ first_of_rows (first_refusal es d.claim) d.claim.bounds.items r v.size → IsFirstOfState o
 
+  -- of a claim: of its numbers, of its mismatches, or of its rows
   pub data IsFirst (o : Option BrokenRow) : Type 0 where
-    numbers : (b : BrokenRow) → first_of_numbers ≡ Some b → o ≡ Some b → IsFirst o
-    state : first_of_numbers ≡ None → IsFirstOfState o → IsFirst o
+    numbers : (b : BrokenRow) → first_of_ranges v.size x r e d ≡ Some b → o ≡ Some b → IsFirst o
+    mismatch : (row : ℕ) → first_of_ranges v.size x r e d ≡ None → first_untrue v x e ≡ Some row
+        → o ≡ Some (broken.Mismatch row) → IsFirst o
+    state : first_of_ranges v.size x r e d ≡ None → first_untrue v x e ≡ None → IsFirstOfState o → IsFirst o
 
   -- the claim, with the boxes of its centre
   abbrev pub rows_claim : Claim
