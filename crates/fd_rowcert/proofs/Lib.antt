@@ -7,4 +7,5 @@ pub mod Found
 pub mod Written
 pub mod Numbered
 pub mod Firsts
+pub mod Tests
 pub mod Showing
