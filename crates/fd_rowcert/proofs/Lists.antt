@@ -31,4 +31,3 @@ module _ {A B : Type 0} (f : A → B) (d : B) where
   pushed_new [] (suc i) x e = absurd (omega (arith, e))
   pushed_new (y ∷ xs) zero x e = absurd (omega (arith, e))
   pushed_new (y ∷ xs) (suc i) x e = pushed_new xs i x (omega (arith, e))
-

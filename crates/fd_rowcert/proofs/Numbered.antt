@@ -85,30 +85,30 @@ in_range n x r e d h =
     }
 
 module _ (v : NetworkView) (x : List ℤ) (r e : List ℕ) (d : DerivedRows) (range : first_of_ranges v.size x r e d ≡ None)
-    where
-  pub is_point : IsPoint v x
-  is_point = let i = in_range v.size x r e d range in record { long = i.sizes.centre; parts = i.centre }
+  where
+    pub is_point : IsPoint v x
+    is_point = let i = in_range v.size x r e d range in record { long = i.sizes.centre; parts = i.centre }
 
-  module _ (true_rows : first_untrue v x e ≡ None) where
-    both : (l : ℕ) → l < v.size → (mismatch_at v x l ≤ number_at e l) × (number_at e l ≤ greatest_mismatch)
-    both l lt =
-        let m = or_parts (nat_lt (number_at e l) (mismatch_at v x l)) (nat_lt greatest_mismatch (number_at e l))
-        (none_holds (λ k. is_untrue (mismatch_at v x k) (number_at e k)) v.size l true_rows lt) in
-        (ltb-false (number_at e l) (mismatch_at v x l) m.0, ltb-false greatest_mismatch (number_at e l) m.1)
+    module _ (true_rows : first_untrue v x e ≡ None) where
+      both : (l : ℕ) → l < v.size → (mismatch_at v x l ≤ number_at e l) × (number_at e l ≤ greatest_mismatch)
+      both l lt =
+          let m = or_parts (nat_lt (number_at e l) (mismatch_at v x l)) (nat_lt greatest_mismatch (number_at e l))
+          (none_holds (λ k. is_untrue (mismatch_at v x k) (number_at e k)) v.size l true_rows lt) in
+          (ltb-false (number_at e l) (mismatch_at v x l) m.0, ltb-false greatest_mismatch (number_at e l) m.1)
 
-    pub tight : (l : ℕ) → l < length e → number_at e l ≤ 1000
-    tight l lt = let i = in_range v.size x r e d range in let b = both l (subst (λ n. l < n) i.sizes.mismatches lt) in b.1
+      pub tight : (l : ℕ) → l < length e → number_at e l ≤ 1000
+      tight l lt = let i = in_range v.size x r e d range in let b = both l (subst (λ n. l < n) i.sizes.mismatches lt) in b.1
 
-    pub is_sound : IsShownByRows v (rows_claim v x r e d) (proof_in d) → IsSound v (rows_claim v x r e d)
-    is_sound shown =
-        let i = in_range v.size x r e d range in
-        record {
-          centre = is_point;
-          boxes = refl;
-          mismatches_long = i.sizes.mismatches;
-          mismatches_least = λ l lt. let b = both l lt in b.0;
-          mismatches_most = λ l lt. let b = both l lt in b.1;
-          radii_long = i.sizes.radii;
-          radii_most = i.radii;
-          shown = shown;
-        }
+      pub is_sound : IsShownByRows v (rows_claim v x r e d) (proof_in d) → IsSound v (rows_claim v x r e d)
+      is_sound shown =
+          let i = in_range v.size x r e d range in
+          record {
+            centre = is_point;
+            boxes = refl;
+            mismatches_long = i.sizes.mismatches;
+            mismatches_least = λ l lt. let b = both l lt in b.0;
+            mismatches_most = λ l lt. let b = both l lt in b.1;
+            radii_long = i.sizes.radii;
+            radii_most = i.radii;
+            shown = shown;
+          }

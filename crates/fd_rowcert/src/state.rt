@@ -96,15 +96,7 @@ pub fn state_equations(
         Err(row) => return Ok(Err(row)),
     };
     let weights = net.weights(alloc, x)?;
-    match set_box(
-        alloc,
-        net,
-        x,
-        &weights,
-        parts,
-        &jacobian,
-        &mut equations,
-    )? {
+    match set_box(alloc, net, x, &weights, parts, &jacobian, &mut equations)? {
         Ok(boxes) => Ok(Ok(InBox { equations, boxes })),
         Err(row) => Ok(Err(row)),
     }

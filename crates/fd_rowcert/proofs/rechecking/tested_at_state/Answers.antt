@@ -37,10 +37,11 @@ returns-clause-told c =
     let d = c.args.rows.now in
     let e = c.args.mismatch.now in
     let t = subst (λ t. Tells (first_wide_slopes d.parts v x) t (λ s. AreEquationsOf v d.parts x e s.equations.items)) c.in-Ok.is c.in_ok-row.ensures.equations in
-    let same = c.deref.ensures.value in
-    (told c.deref.result.now t.0 (subst (AreEquationsOf v d.parts x e) (sym same) t.1)
-    (sym c.in-None.is ∙ c.in_ok-broken-in-Ok.ensures.first ∙ ap (first_of_rows (first_refusal c.deref.result.now d.claim) d.claim.bounds.items c.args.radius.now) c.requires.bounds),
-    subst (λ t. IfOk t (λ s. s.boxes.items ≡ part_boxes d.parts v x)) c.in-Ok.is c.in_ok-row.ensures.boxes)
+    let same = c.deref.ensures.value in (
+      told c.deref.result.now t.0 (subst (AreEquationsOf v d.parts x e) (sym same) t.1)
+          (sym c.in-None.is ∙ c.in_ok-broken-in-Ok.ensures.first ∙ ap (first_of_rows (first_refusal c.deref.result.now d.claim) d.claim.bounds.items c.args.radius.now) c.requires.bounds),
+      subst (λ t. IfOk t (λ s. s.boxes.items ≡ part_boxes d.parts v x)) c.in-Ok.is c.in_ok-row.ensures.boxes,
+    )
 
 pub returns-clause-shown : goal.returns-clause-shown
 returns-clause-shown c =

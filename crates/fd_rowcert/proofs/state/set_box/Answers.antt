@@ -53,9 +53,11 @@ returns-in-None-clause-told c =
     let R = part_radius c.args.parts v x in
     let is = boxes_are c.args.parts v x c.args.weights.now c.in_ok-boxes.boxes.items (weights_at v x c.args.weights.now c.requires.weights)
     c.in_ok-boxes.ensures in
-    let radii = c.in_ok-radii.ensures.radii c.args.parts (c.deref.ensures.value ∙ is) in
-    (ap (λ n. first_wide n (radii_in R)) (sym c.in_ok-radii.ensures.size)
-    ∙ sym (c.in_ok-row.ensures.first R radii) ∙ c.in-None.is, is)
+    let radii = c.in_ok-radii.ensures.radii c.args.parts (c.deref.ensures.value ∙ is) in (
+      ap (λ n. first_wide n (radii_in R)) (sym c.in_ok-radii.ensures.size)
+          ∙ sym (c.in_ok-row.ensures.first R radii) ∙ c.in-None.is,
+      is,
+    )
 
 pub returns-in-Some-clause-kept : goal.returns-in-Some-clause-kept
 returns-in-Some-clause-kept c = λ e h.
