@@ -1,5 +1,5 @@
 -- What is read of the first line.
-use Rattle.std.proofs.Common.{◌≡◌, ℕ, List, [], ◌∷◌, Option, Some, None, Result, Ok, Err, refl, ap, sym, ◌∙◌}
+use Rattle.std.proofs.Common.{◌≡◌, ℕ, List, [], ◌∷◌, Option, Some, None, Ok, Err, ap, sym, ◌∙◌}
 use Rattle.fd_lines.specs.Numbered.{or_refused, ◌>>=◌}
 use Rattle.fd_lines.specs.WordLines.{Line, other, rest_of}
 use Rattle.fd_rowfile.specs.Blocks.{first_at}

@@ -2,6 +2,8 @@ pub mod RowTexts
 pub mod Writing
 pub mod FirstLines
 pub mod RowSteps
+pub mod ReadTo
+pub mod BlockParts
 pub mod PairsTaken
 pub mod Pivots
 pub mod RowEnds

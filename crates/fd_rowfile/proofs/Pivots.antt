@@ -1,9 +1,9 @@
 -- A pivot, and the pairs beside it.
-use Rattle.std.proofs.Common.{◌≡◌, ℕ, ◌+◌, ◌-◌, ◌<◌, Bool, true, false, ℤ, pos, negsuc, List, [], ◌∷◌, ◌++◌, length, Option, Some, None, refl, ap, sym, subst, ◌∙◌, arith}
+use Rattle.std.proofs.Common.{◌≡◌, ℕ, ◌-◌, ◌<◌, true, false, ℤ, pos, negsuc, List, [], ◌∷◌, ◌++◌, length, Option, Some, None, refl, ap, sym, ◌∙◌, arith}
 use Rattle.std.specs.Option.{option_and_then, option_map}
 use Rattle.std.proofs.lemmas.Bool.{cond-true}
 use Rattle.fd_rowfile.specs.Blocks.{is_below, is_beside, is_next, pairs_at, pivot_at, with_pair}
-use Rattle.fd_rowfile.specs.Held.{IsPut, TakesPairs, clipped_pair, clipped_pairs, is_next_at}
+use Rattle.fd_rowfile.specs.Held.{IsPut, TakesPairs, clipped_pair, clipped_pairs}
 
 pub no_pivot : (n k : ℕ) (all : Option (List ℤ)) → ((zs : List ℤ) → all ≡ Some zs → length zs < 2)
     → option_and_then (pivot_at n k) all ≡ None

@@ -1,12 +1,11 @@
 -- A row line, and what ends the rows.
-use Rattle.std.proofs.Common.{◌≡◌, ℕ, Bool, true, false, ℤ, pos, List, [], ◌∷◌, inl, inr, Option, Some, None, is_some, Result, Ok, Err, refl, ap, sym, subst, ◌∙◌}
-use Rattle.std.specs.Prelude.{codes}
+use Rattle.std.proofs.Common.{◌≡◌, ℕ, true, false, ℤ, List, [], ◌∷◌, inl, inr, Option, Some, None, is_some, Result, Ok, Err, refl, ap, sym, ◌∙◌}
 use Rattle.std.specs.Option.{option_and_then, option_map}
 use Rattle.std.proofs.lemmas.Bool.{cond-true, cond-false}
 use Rattle.fd_lines.specs.Cuts.{first_number}
 use Rattle.fd_lines.specs.Numbered.{is_place, or_refused, ◌>>=◌}
 use Rattle.fd_lines.specs.Numbers.{numbers_of}
-use Rattle.fd_lines.specs.WordLines.{Line, numbers_by, other, rest_of}
+use Rattle.fd_lines.specs.WordLines.{Line, rest_of}
 use Rattle.fd_lines.proofs.CallerLemmas.{first_none, first_some}
 use Rattle.fd_rowfile.specs.Blocks.{Row, if_some, placed_row, row_in, row_of, row_step}
 use Rattle.fd_rowfile.specs.Held.{IsRowOf, IsRowStep}

@@ -1,8 +1,7 @@
 -- What is held of the rows of a block: exactly their numbers in 64 bits, and of those that need more the greatest of
 -- their sign, which is out of each range.
-use Rattle.std.specs.Prelude.{◌≡◌, ◌+◌, ◌-◌, ◌^◌, ℕ, suc, ℤ, pos, negsuc, min, Bool, true, false, List, [], ◌∷◌, ◌++◌, map, Option, Some, None, option_and_then, option_map, Result, Ok, Err}
+use Rattle.std.specs.Prelude.{◌≡◌, ◌+◌, ◌-◌, ◌^◌, ℕ, ℤ, pos, negsuc, min, Bool, true, false, List, [], ◌∷◌, ◌++◌, map, Option, Some, option_and_then, option_map, Result, Ok, Err}
 use Rattle.fd_derived.specs.Rows.{derived_row}
-use Rattle.fd_derived.specs.fd_factors.Factors.{DerivedRow}
 use Rattle.fd_lines.specs.Numbered.{count_of}
 use Rattle.fd_lines.specs.WordLines.{Line, lines_of}
 use Rattle.fd_rowfile.specs.Blocks.{Block, Row, is_anywhere, is_below, is_beside, is_next}

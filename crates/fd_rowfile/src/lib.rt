@@ -21,7 +21,7 @@ mod stop;
 mod texts;
 mod write;
 
-pub use block::HeldBlock;
+pub use block::{HeldBlock, read_block};
 pub use data::{Act, Bound, Head, Part};
 pub use rows::HeldRow;
 pub use stop::Stop;

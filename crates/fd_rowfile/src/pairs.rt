@@ -34,13 +34,7 @@ fn clipped(number: i128) -> i64
 {
     match i64::try_from(number) {
         Ok(short) => short,
-        Err(_) => {
-            if number < 0 {
-                i64::MIN
-            } else {
-                i64::MAX
-            }
-        }
+        Err(_) => { if number < 0 { i64::MIN } else { i64::MAX } }
     }
 }
 

@@ -70,8 +70,7 @@ fn placed(
 }
 
 // The row of the next line, and the bytes behind it; none, where no row line comes next.
-#[tactic(auto, using(crate::proofs::RowSteps::step_row, crate::proofs::RowSteps::step_no_row, crate::proofs::RowSteps::step_end,
-crate::proofs::RowSteps::step_refused, crate::proofs::RowSteps::step_other))]
+#[tactic(auto, using(crate::proofs::RowSteps::step_row, crate::proofs::RowSteps::step_no_row, crate::proofs::RowSteps::step_end, crate::proofs::RowSteps::step_refused, crate::proofs::RowSteps::step_other))]
 fn next_row<'a>(
     alloc: Global,
     below: u128,
@@ -98,4 +97,22 @@ fn next_row<'a>(
             }
         }
     }
+}
+
+/// The rows up to the first line that is no row line, and the bytes from there on.
+pub(crate) fn rows(
+    alloc: Global,
+    below: u128,
+    bytes: &[u8],
+) -> Result<(Vec<HeldRow>, &[u8]), Stop<'_>>
+    ensures read { IfOk result (λ z. AreRows (rows_at below 0 (lines_of bytes.now)) z.0.items (lines_of z.1.now)) }
+    ensures refused { IfErr result (λ e. Stops e (rows_at below 0 (lines_of bytes.now))) }
+{
+    let mut found = Vec::new(alloc);
+    let mut rest = bytes;
+    while let Some((held, more)) = next_row(alloc, below, found.len() as u128, rest)? {
+        found.push(held)?;
+        rest = more;
+    }
+    Ok((found, rest))
 }
