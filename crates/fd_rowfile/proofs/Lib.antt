@@ -4,6 +4,9 @@ pub mod FirstLines
 pub mod RowSteps
 pub mod ReadTo
 pub mod BlockParts
+pub mod RowForms
+pub mod LineForms
+pub mod BlockForms
 pub mod PairsTaken
 pub mod Pivots
 pub mod RowEnds

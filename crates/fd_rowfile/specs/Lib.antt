@@ -2,5 +2,6 @@ pub mod Blocks
 pub mod Views
 pub mod Written
 pub mod Held
+pub mod Laws
 pub use Rattle.fd_lines.specs as fd_lines
 pub use Rattle.fd_derived.specs as fd_derived

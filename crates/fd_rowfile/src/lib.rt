@@ -10,10 +10,12 @@
 //! - `rows`: rows
 //! - `texts`: the texts of lines
 //! - `write`: the lines of a block
+//! - `laws`: laws of the grammar
 #![tactic(auto)]
 
 mod block;
 mod data;
+mod laws;
 mod lines;
 mod pairs;
 mod rows;
@@ -23,6 +25,7 @@ mod write;
 
 pub use block::{HeldBlock, read_block};
 pub use data::{Act, Bound, Head, Part};
+pub use laws::{block_law, text_law};
 pub use rows::HeldRow;
 pub use stop::Stop;
 pub use write::write_block;

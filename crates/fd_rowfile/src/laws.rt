@@ -1,0 +1,14 @@
+// Laws of the grammar: functions without code, whose contracts are the laws.
+ghost use Rattle.fd_rowfile.specs.Laws.{BlockLaw, TextLaw};
+
+/// A block has one list of lines.
+#[tactic(auto, using(crate::proofs::BlockForms::block_law))]
+pub fn block_law()
+    ensures { BlockLaw }
+{}
+
+/// The bytes of a block are read as that block and as nothing else.
+#[tactic(auto, using(crate::proofs::BlockForms::text_law))]
+pub fn text_law()
+    ensures { TextLaw }
+{}
