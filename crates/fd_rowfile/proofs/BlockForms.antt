@@ -1,13 +1,13 @@
 -- A block has one list of lines, and its bytes are read as it.
-use Rattle.std.proofs.Common.{◌≡◌, ℕ, ◌+◌, ℤ, List, [], ◌∷◌, ◌++◌, length, Result, Ok, Err, refl, ap, sym, subst, ◌∙◌}
+use Rattle.std.proofs.Common.{◌≡◌, ℕ, ◌+◌, ℤ, List, [], ◌∷◌, ◌++◌, Result, Ok, refl, ap, sym, subst, ◌∙◌}
 use Rattle.std.specs.Prelude.{codes, map}
 use Rattle.std.specs.List.{AllByRecursion}
 use Rattle.std.proofs.lemmas.List.{append_assoc, append-nil}
 use Rattle.fd_lines.specs.Numbered.{count_of, numbered_at, numbered_lines}
-use Rattle.fd_lines.specs.WordLines.{IsLine, Line, bytes_of, line, lines_of}
+use Rattle.fd_lines.specs.WordLines.{Line, line, lines_of}
 use Rattle.fd_lines.proofs.CallerLemmas.{IsKnown, bind_ok, lines_again, lines_found, numbered_again, numbered_found}
-use Rattle.fd_rowfile.specs.Blocks.{Act, Block, Bound, IsRow, IsSized, Part, Row, act_line, acts_at, block_at, block_bytes, block_lines, block_with, bound_at, bound_line, box_in, first_at, head_in, lines_behind_rows, part_at, part_line, row_line, rows_at}
-use Rattle.fd_rowfile.specs.Laws.{BlockLaw, IsBehindActs, IsBehindRows, IsWritable, Spells, TextLaw}
+use Rattle.fd_rowfile.specs.Blocks.{Act, Block, Bound, IsSized, Part, Row, act_line, acts_at, block_at, block_bytes, block_lines, block_with, bound_at, bound_line, box_in, first_at, head_in, lines_behind_rows, part_at, part_line, row_line, rows_at}
+use Rattle.fd_rowfile.specs.Laws.{IsBehindActs, IsBehindRows, IsWritable, Spells, TextLaw}
 use Rattle.fd_rowfile.proofs.BlockParts.{Head, behind_bounds, block_by, bounds_then, box_then, head_then, parts_then, rows_then}
 use Rattle.fd_rowfile.proofs.LineForms.{Anything, acts_again, acts_found, anything, bound_again, bound_found, box_found, first_found, head_found, no_acts, part_again, part_found, rows_again, rows_found}
 
@@ -100,9 +100,6 @@ block_found lines b rest e =
           acts_end = fa.1;
         }
 
-pub block_law : BlockLaw
-block_law = record { again = block_only; found = block_found }
-
 -- ---- bytes
 
 all_append : {X : Type 0} (P : X → Type 0) (xs ys : List X) → AllByRecursion P xs → AllByRecursion P ys
@@ -120,10 +117,15 @@ known_acts [] = tt
 known_acts (a ∷ acts) = (tt, known_acts acts)
 
 known_block : (b : Block) → AllByRecursion IsKnown (block_lines b)
-known_block b = (tt, (tt,
-  all_append IsKnown (numbered_lines part_line 0 b.parts) _ (known_numbered part_line (λ i p. tt) 0 b.parts)
-  (all_append IsKnown (numbered_lines row_line 0 b.rows) _ (known_numbered row_line (λ i r. tt) 0 b.rows)
-  (all_append IsKnown (numbered_lines bound_line 0 b.bounds) _ (known_numbered bound_line (λ i r. tt) 0 b.bounds) (known_acts b.acts)))))
+known_block b = (
+  tt,
+  (
+    tt,
+    all_append IsKnown (numbered_lines part_line 0 b.parts) _ (known_numbered part_line (λ i p. tt) 0 b.parts)
+        (all_append IsKnown (numbered_lines row_line 0 b.rows) _ (known_numbered row_line (λ i r. tt) 0 b.rows)
+        (all_append IsKnown (numbered_lines bound_line 0 b.bounds) _ (known_numbered bound_line (λ i r. tt) 0 b.bounds) (known_acts b.acts))),
+  ),
+)
 
 text_again : (b : Block) (tail : List ℕ) → IsSized b → IsWritable b → IsBehindRows (lines_behind_rows b ++ lines_of tail)
     → IsBehindActs (lines_of tail) → block_at (lines_of (block_bytes b ++ tail)) ≡ Ok (b, lines_of tail)

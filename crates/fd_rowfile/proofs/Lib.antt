@@ -7,6 +7,8 @@ pub mod BlockParts
 pub mod RowForms
 pub mod LineForms
 pub mod BlockForms
+pub mod Refused
+pub mod Unique
 pub mod PairsTaken
 pub mod Pivots
 pub mod RowEnds

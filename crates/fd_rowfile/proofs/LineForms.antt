@@ -1,15 +1,15 @@
 -- Each line of a block has one form.
-use Rattle.std.proofs.Common.{◌≡◌, ℕ, suc, Bool, true, false, cond, ℤ, pos, negsuc, List, [], ◌∷◌, ◌++◌, length, Option, Some, None, Result, Ok, Err, refl, ap, sym, subst, ◌∙◌, add-one}
-use Rattle.std.specs.Prelude.{codes, map, nat_eq}
+use Rattle.std.proofs.Common.{◌≡◌, ℕ, suc, true, ℤ, pos, negsuc, List, [], ◌∷◌, ◌++◌, Option, Some, None, Result, Ok, refl, ap, subst, ◌∙◌, add-one}
+use Rattle.std.specs.Prelude.{codes, map}
 use Rattle.std.specs.List.{AllByRecursion}
-use Rattle.std.specs.Option.{option_and_then, option_map}
+use Rattle.std.specs.Option.{option_and_then}
 use Rattle.std.proofs.lemmas.Bool.{cond-true, eq-eqb, eqb-true}
 use Rattle.fd_lines.specs.Cuts.{four_of, one_of, three_of}
 use Rattle.fd_lines.specs.Numbered.{is_place, numbered_lines, or_refused, ◌>>=◌}
 use Rattle.fd_lines.specs.Numbers.{text_eq}
 use Rattle.fd_lines.specs.WordLines.{Line, line, numbers_by, other}
 use Rattle.fd_lines.proofs.CallerLemmas.{IsFound, ReadsAgain, and_then_some, bind_ok, let_through, map_some, read_ok, same_from}
-use Rattle.fd_rowfile.specs.Blocks.{Act, Bound, IsRow, Part, Row, act_in, act_line, act_of, acts_at, bound_at, bound_line, box_in, first_at, head_in, if_some, part_at, part_line, placed_bound, placed_part, placed_row, row_in, row_line, row_of, rows_at}
+use Rattle.fd_rowfile.specs.Blocks.{Act, IsRow, Row, act_in, act_line, act_of, acts_at, bound_at, bound_line, box_in, first_at, head_in, if_some, part_at, part_line, placed_bound, placed_part, placed_row, row_in, row_line, row_of, rows_at}
 use Rattle.fd_rowfile.specs.Laws.{IsBehindActs, IsBehindRows}
 use Rattle.fd_rowfile.proofs.RowForms.{row_again, row_found, some_is, then_found}
 
@@ -22,7 +22,7 @@ is_place_self i = eq-eqb i i refl
 
 -- ---- the numbers behind a word
 
-numbers_found : (word : List ℕ) (l : Line) (numbers : List ℤ) → numbers_by word l ≡ Some numbers → l ≡ line word numbers
+pub numbers_found : (word : List ℕ) (l : Line) (numbers : List ℤ) → numbers_by word l ≡ Some numbers → l ≡ line word numbers
 numbers_found word other numbers e = absurd cc
 numbers_found word (line found zs) numbers e =
     let g = let_through (text_eq found word) zs numbers e in
@@ -83,9 +83,11 @@ pub part_found : IsFound part_at part_line Anything
 part_found i l x e =
     let a = and_then_some (placed_part i) (four_of (numbers_by (codes "x") l)) x e in
     let q = a.0 in
-    let g = let_through (is_place i q.0) (record { centre = q.1; radius = q.2; mismatch = q.3 }) x a.2 in
-    (numbers_found (codes "x") l (q.0 ∷ q.1 ∷ q.2 ∷ q.3 ∷ []) (four_found (numbers_by (codes "x") l) q a.1)
-    ∙ ap (λ (z : ℤ). line (codes "x") (z ∷ q.1 ∷ q.2 ∷ q.3 ∷ [])) (place_is i q.0 g.0) ∙ ap (part_line i) g.1, tt)
+    let g = let_through (is_place i q.0) (record { centre = q.1; radius = q.2; mismatch = q.3 }) x a.2 in (
+      numbers_found (codes "x") l (q.0 ∷ q.1 ∷ q.2 ∷ q.3 ∷ []) (four_found (numbers_by (codes "x") l) q a.1)
+          ∙ ap (λ (z : ℤ). line (codes "x") (z ∷ q.1 ∷ q.2 ∷ q.3 ∷ [])) (place_is i q.0 g.0) ∙ ap (part_line i) g.1,
+      tt,
+    )
 
 pub bound_again : ReadsAgain bound_at bound_line Anything
 bound_again i b h = cond-true (is_place i (pos i)) _ _ (is_place_self i)
@@ -94,9 +96,11 @@ pub bound_found : IsFound bound_at bound_line Anything
 bound_found i l x e =
     let a = and_then_some (placed_bound i) (three_of (numbers_by (codes "bound") l)) x e in
     let q = a.0 in
-    let g = let_through (is_place i q.0) (record { row = q.1; bound = q.2 }) x a.2 in
-    (numbers_found (codes "bound") l (q.0 ∷ q.1 ∷ q.2 ∷ []) (three_found (numbers_by (codes "bound") l) q a.1)
-    ∙ ap (λ (z : ℤ). line (codes "bound") (z ∷ q.1 ∷ q.2 ∷ [])) (place_is i q.0 g.0) ∙ ap (bound_line i) g.1, tt)
+    let g = let_through (is_place i q.0) (record { row = q.1; bound = q.2 }) x a.2 in (
+      numbers_found (codes "bound") l (q.0 ∷ q.1 ∷ q.2 ∷ []) (three_found (numbers_by (codes "bound") l) q a.1)
+          ∙ ap (λ (z : ℤ). line (codes "bound") (z ∷ q.1 ∷ q.2 ∷ [])) (place_is i q.0 g.0) ∙ ap (bound_line i) g.1,
+      tt,
+    )
 
 -- ---- acts
 
@@ -133,7 +137,7 @@ module _ (n : ℕ) where
   pub row_line_again : ReadsAgain (λ i l. option_and_then (placed_row n i) (row_in l)) row_line (IsRow n)
   row_line_again i r h = cond-true (is_place i (pos i)) _ _ (is_place_self i) ∙ row_again n r.height r.derived h
 
-  placed_found : (i : ℕ) (numbers : List ℤ) (r : Row) → placed_row n i numbers ≡ Some r
+  pub placed_found : (i : ℕ) (numbers : List ℤ) (r : Row) → placed_row n i numbers ≡ Some r
       → (line (codes "row") numbers ≡ row_line i r) × IsRow n r
   placed_found i [] r e = absurd cc
   placed_found i (place ∷ []) r e =
@@ -141,9 +145,11 @@ module _ (n : ℕ) where
       let no : ⊥ = (let f = g.1 in cc) in absurd no
   placed_found i (place ∷ height ∷ numbers) r e =
       let g = then_found (is_place i place) (row_of n (height ∷ numbers)) r e in
-      let f = row_found n height numbers r g.1 in
-      (ap (λ (z : ℤ). line (codes "row") (z ∷ height ∷ numbers)) (place_is i place g.0)
-      ∙ ap (λ (zs : List ℤ). line (codes "row") (pos i ∷ zs)) f.0, f.1)
+      let f = row_found n height numbers r g.1 in (
+        ap (λ (z : ℤ). line (codes "row") (z ∷ height ∷ numbers)) (place_is i place g.0)
+            ∙ ap (λ (zs : List ℤ). line (codes "row") (pos i ∷ zs)) f.0,
+        f.1,
+      )
 
   pub rows_again : (i : ℕ) (rs : List Row) (rest : List Line) → AllByRecursion (IsRow n) rs → IsBehindRows rest
       → rows_at n i (numbered_lines row_line i rs ++ rest) ≡ Ok (rs, rest)

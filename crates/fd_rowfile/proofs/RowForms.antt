@@ -3,7 +3,7 @@ use Rattle.std.proofs.Common.{◌≡◌, ℕ, zero, suc, Bool, true, false, cond
 use Rattle.std.specs.Prelude.{flat_map}
 use Rattle.std.specs.Option.{option_and_then, option_map}
 use Rattle.std.proofs.lemmas.Bool.{cond-true}
-use Rattle.std.proofs.lemmas.List.{append_assoc, append-nil}
+use Rattle.std.proofs.lemmas.List.{append-nil}
 use Rattle.fd_derived.specs.fd_factors.Factors.{DerivedRow}
 use Rattle.fd_lines.proofs.CallerLemmas.{and_then_some, map_some}
 use Rattle.fd_rowfile.specs.Blocks.{AreRising, IsLeft, IsRow, Row, derived_fields, is_anywhere, is_below, is_beside, is_next, left_at, list_at, list_fields, pair_fields, pairs_at, pivot_at, row_of, row_with, with_pair}
@@ -82,9 +82,11 @@ pivot_found n k (pos p ∷ z ∷ numbers) y e =
     let a = then_found (is_next (is_below n) 0 p z) (option_map (with_pair (p, z)) (pairs_at (is_beside n p) k 0 numbers)) y e in
     let b = map_some (with_pair (p, z)) (pairs_at (is_beside n p) k 0 numbers) y a.1 in
     let c = pairs_found (is_beside n p) k 0 numbers b.0 b.1 in
-    subst (λ (w : Pairs × List ℤ). (pos (suc k) ∷ pos p ∷ z ∷ numbers ≡ list_fields w.0 ++ w.1) × IsLeft n w.0) b.2
-    (ap (λ (m : ℕ). pos (suc m) ∷ pos p ∷ z ∷ numbers) (sym c.many)
-    ∙ ap (λ (zs : List ℤ). pos (suc (length b.0.0)) ∷ pos p ∷ z ∷ zs) c.numbers_are, (a.0, c.rising))
+    subst (λ (w : Pairs × List ℤ). (pos (suc k) ∷ pos p ∷ z ∷ numbers ≡ list_fields w.0 ++ w.1) × IsLeft n w.0) b.2 (
+      ap (λ (m : ℕ). pos (suc m) ∷ pos p ∷ z ∷ numbers) (sym c.many)
+          ∙ ap (λ (zs : List ℤ). pos (suc (length b.0.0)) ∷ pos p ∷ z ∷ zs) c.numbers_are,
+      (a.0, c.rising),
+    )
 
 pub left_found : (n : ℕ) (numbers : List ℤ) (y : Pairs × List ℤ) → left_at n numbers ≡ Some y
     → (numbers ≡ list_fields y.0 ++ y.1) × IsLeft n y.0
@@ -125,8 +127,9 @@ module _ (n : ℕ) (height : ℤ) where
       let fa = list_found (is_below n) numbers a.0 a.1 in
       let fb = list_found is_anywhere a.0.1 b.0 b.1 in
       let fc = left_found n b.0.1 c.0 c.1 in
-      subst (λ (x : Row). (height ∷ numbers ≡ x.height ∷ derived_fields x.derived) × IsRow n x) w.1
-      (ap (λ (zs : List ℤ). height ∷ zs) (fa.0
-      ∙ ap (λ (zs : List ℤ). list_fields a.0.0 ++ zs) (fb.0
-      ∙ ap (λ (zs : List ℤ). list_fields b.0.0 ++ zs) (fc.0 ∙ ap (λ (zs : List ℤ). list_fields c.0.0 ++ zs) w.0 ∙ append-nil (list_fields c.0.0)))),
-      record { equations = fa.1; others = fb.1; left = fc.1 })
+      subst (λ (x : Row). (height ∷ numbers ≡ x.height ∷ derived_fields x.derived) × IsRow n x) w.1 (
+        ap (λ (zs : List ℤ). height ∷ zs) (fa.0
+            ∙ ap (λ (zs : List ℤ). list_fields a.0.0 ++ zs) (fb.0
+            ∙ ap (λ (zs : List ℤ). list_fields b.0.0 ++ zs) (fc.0 ∙ ap (λ (zs : List ℤ). list_fields c.0.0 ++ zs) w.0 ∙ append-nil (list_fields c.0.0)))),
+        record { equations = fa.1; others = fb.1; left = fc.1 },
+      )

@@ -1,5 +1,5 @@
 -- Laws of the grammar of a block.
-use Rattle.std.specs.Prelude.{◌≡◌, ℕ, List, [], ◌∷◌, ◌++◌, Option, None, Ok, Err}
+use Rattle.std.specs.Prelude.{◌≡◌, ℕ, List, [], ◌∷◌, ◌++◌, None, Ok, Err}
 use Rattle.std.specs.List.{AllByRecursion}
 use Rattle.fd_lines.specs.Numbered.{with_first}
 use Rattle.fd_lines.specs.WordLines.{IsLine, Line, lines_of}
@@ -46,11 +46,14 @@ pub record Refuses (lines rest : List Line) : Type 0 where
   pub begins : BeginsBlock front
   pub refused : (more : List Line) → BeginNoBlock (front ++ with_first rest more)
 
--- what is written is read as exactly that block, and what is read as a block is what is written of it
+-- what is written is read as exactly that block, and what is read as a block is what is written of it; a refused line is
+-- the first with which no block begins
 pub record BlockLaw : Type 0 where
   pub again : (b : Block) (rest : List Line) → IsSized b → IsBehindRows (lines_behind_rows b ++ rest) → IsBehindActs rest
       → block_at (block_lines b ++ rest) ≡ Ok (b, rest)
   pub found : (lines : List Line) (b : Block) (rest : List Line) → block_at lines ≡ Ok (b, rest) → Spells lines b rest
+  pub refused : (lines rest : List Line) → block_at lines ≡ Err rest → Refuses lines rest
+  pub one_refused : (lines a b : List Line) → Refuses lines a → Refuses lines b → a ≡ b
 
 -- the bytes of a block are read as it and as nothing else; and bytes that are read as a block are its bytes and then
 -- others

@@ -1,8 +1,8 @@
 // Laws of the grammar: functions without code, whose contracts are the laws.
 ghost use Rattle.fd_rowfile.specs.Laws.{BlockLaw, TextLaw};
 
-/// A block has one list of lines.
-#[tactic(auto, using(crate::proofs::BlockForms::block_law))]
+/// A block has one list of lines, and a refused line is the first with which no block begins.
+#[tactic(auto, using(crate::proofs::Unique::block_law))]
 pub fn block_law()
     ensures { BlockLaw }
 {}
