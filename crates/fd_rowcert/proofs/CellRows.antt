@@ -8,10 +8,10 @@ use Rattle.fd_cert.specs.fd_enclosure.fd_exact.SumLaws.{sum_z-same, sum_z-zero}
 use Rattle.fd_cert.specs.fd_enclosure.fd_equations.Amounts.{Amount, IsRowOf as IsCellRow, cell_at}
 use Rattle.fd_cert.specs.fd_enclosure.fd_equations.WalkLaws.{walk_sums}
 use Rattle.fd_cert.specs.fd_enclosure.fd_equations.declared.cells.Cell.{Cell}
-use Rattle.fd_triangles.specs.Rows.{IsRising, IsRow, IsRowOf, entry_at, number}
-use Rattle.fd_triangles.specs.fd_derived.Rows.{entries_of}
-use Rattle.fd_triangles.specs.fd_derived.Sums.{capped, size_of}
-use Rattle.fd_triangles.specs.fd_derived.declared.entries.Entry.{Entry}
+use Rattle.fd_bounds.specs.fd_triangles.Rows.{IsRising, IsRow, IsRowOf, entry_at, number}
+use Rattle.fd_bounds.specs.fd_derived.Rows.{entries_of}
+use Rattle.fd_bounds.specs.fd_derived.Sums.{capped, size_of}
+use Rattle.fd_bounds.specs.fd_derived.declared.entries.Entry.{Entry}
 use Rattle.fd_rowcert.specs.Entries.{AreEntriesOf, entry_in, has_units, is_wide, row_size, size_in}
 use Rattle.fd_rowcert.proofs.Cells.{cell_size}
 

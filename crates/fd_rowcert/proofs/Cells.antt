@@ -4,7 +4,7 @@ use Rattle.fd_cert.specs.fd_enclosure.fd_exact.Sums.{list_n}
 use Rattle.fd_cert.specs.fd_enclosure.fd_equations.Amounts.{cell_at, empty}
 use Rattle.fd_cert.specs.fd_enclosure.fd_equations.declared.cells.Cell.{Cell}
 use Rattle.fd_cert.proofs.CallerLemmas.fd_enclosure.fd_equations.{list_n_more}
-use Rattle.fd_triangles.specs.fd_derived.Sums.{capped}
+use Rattle.fd_bounds.specs.fd_derived.Sums.{capped}
 use Rattle.fd_rowcert.specs.Entries.{size_in}
 
 pub size_more : (cells : List Cell) (k : ℕ) → k < length cells

@@ -3,10 +3,10 @@ use Rattle.std.proofs.Common.{◌≡◌, ◌∙◌, ℕ, zero, suc, ◌+◌, ◌
 use Rattle.std.specs.Prelude.{◌||◌}
 use Rattle.std.proofs.lemmas.Bool.{or_from}
 use Rattle.fd_cert.specs.fd_enclosure.Sound.{number_at}
-use Rattle.fd_triangles.specs.Rows.{entry_at}
-use Rattle.fd_triangles.specs.fd_derived.Rows.{derived_row, entries_of, no_row, row_at}
-use Rattle.fd_triangles.specs.fd_derived.declared.entries.Entry.{Entry}
-use Rattle.fd_triangles.specs.fd_derived.declared.entries.Row.{Row}
+use Rattle.fd_bounds.specs.fd_triangles.Rows.{entry_at}
+use Rattle.fd_bounds.specs.fd_derived.Rows.{derived_row, entries_of, no_row, row_at}
+use Rattle.fd_bounds.specs.fd_derived.declared.entries.Entry.{Entry}
+use Rattle.fd_bounds.specs.fd_derived.declared.entries.Row.{Row}
 use Rattle.fd_rowcert.specs.Rechecks.{has_large, is_large}
 use Rattle.fd_rowcert.proofs.Lists.{at_read}
 

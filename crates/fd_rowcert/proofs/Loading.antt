@@ -4,8 +4,8 @@ use Rattle.std.proofs.lemmas.Bool.{cases_eq, cases_lt}
 use Rattle.std.proofs.lemmas.List.{length_push}
 use Rattle.fd_cert.specs.fd_enclosure.Sound.{right_side}
 use Rattle.fd_cert.specs.fd_enclosure.fd_exact.FirstLaws.{first_none, first_some}
-use Rattle.fd_triangles.specs.fd_derived.declared.entries.Entry.{Entry}
-use Rattle.fd_triangles.specs.fd_derived.declared.entries.Equation.{Equation}
+use Rattle.fd_bounds.specs.fd_derived.declared.entries.Entry.{Entry}
+use Rattle.fd_bounds.specs.fd_derived.declared.entries.Equation.{Equation}
 use Rattle.fd_rowcert.specs.Entries.{AreEntriesOf, is_wide}
 use Rattle.fd_rowcert.specs.Equations.{AreEquations, HaveCoefficients, first_wide, no_terms, radii_in, terms_at, terms_of}
 use Rattle.fd_rowcert.proofs.Lists.{at_other, at_same, pushed_new, pushed_old}

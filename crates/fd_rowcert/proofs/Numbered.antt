@@ -14,7 +14,7 @@ use Rattle.fd_cert.specs.fd_enclosure.fd_exact.FirstLaws.{none_holds}
 use Rattle.fd_cert.specs.fd_enclosure.fd_exact.States.{part}
 use Rattle.fd_cert.specs.fd_enclosure.fd_pattern.Conditions.{IsPart, IsPoint}
 use Rattle.fd_cert.specs.fd_enclosure.fd_pattern.Views.{NetworkView}
-use Rattle.fd_triangles.specs.fd_derived.declared.entries.Claim.{Claim}
+use Rattle.fd_bounds.specs.fd_derived.declared.entries.Claim.{Claim}
 use Rattle.fd_rowcert.specs.Rechecks.{broken_at, first_of_ranges, first_untrue, has_size, is_box, is_far_at, is_high_at, is_large_at, rows_claim}
 use Rattle.fd_rowcert.specs.declared.broken.BrokenRow.{BrokenRow}
 use Rattle.fd_rowcert.specs.declared.broken.BrokenRow.TheVariants as broken

@@ -11,11 +11,11 @@ use Rattle.fd_cert.specs.fd_enclosure.Sound.{number_at, right_side}
 use Rattle.fd_cert.specs.fd_enclosure.fd_equations.Amounts.{Amount}
 use Rattle.fd_cert.specs.fd_enclosure.fd_equations.Matrices.{MatrixView}
 use Rattle.fd_cert.specs.fd_enclosure.fd_pattern.Patterns.{IsInside}
-use Rattle.fd_triangles.specs.Rows.{IsRising, entry_at, number}
-use Rattle.fd_triangles.specs.fd_derived.Rows.{coefficient, coefficients_at, entries_of, radii_at, radius, right_side_at}
-use Rattle.fd_triangles.specs.fd_derived.declared.entries.Entry.{Entry}
-use Rattle.fd_triangles.specs.fd_derived.declared.entries.Equation.{Equation}
-use Rattle.fd_triangles.specs.fd_derived.fd_factors.Factors.{sizes_at, sum_at}
+use Rattle.fd_bounds.specs.fd_triangles.Rows.{IsRising, entry_at, number}
+use Rattle.fd_bounds.specs.fd_derived.Rows.{coefficient, coefficients_at, entries_of, radii_at, radius, right_side_at}
+use Rattle.fd_bounds.specs.fd_derived.declared.entries.Entry.{Entry}
+use Rattle.fd_bounds.specs.fd_derived.declared.entries.Equation.{Equation}
+use Rattle.fd_bounds.specs.fd_derived.fd_factors.Factors.{sizes_at, sum_at}
 use Rattle.fd_rowcert.specs.Entries.{AreEntriesOf}
 use Rattle.fd_rowcert.specs.Equations.{AreEquations, EndsBy, HaveNumbers, radii_in, terms_at}
 

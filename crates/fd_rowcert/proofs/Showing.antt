@@ -9,9 +9,9 @@ use Rattle.fd_cert.specs.fd_enclosure.Sound.{Claim, IsShownByRows, number_at, ri
 use Rattle.fd_cert.specs.fd_enclosure.fd_equations.Rounded.{jacobian_entry}
 use Rattle.fd_cert.specs.fd_enclosure.fd_pattern.Views.{NetworkView}
 use Rattle.fd_cert.specs.fd_enclosure.fd_factors.Factors.{BoundsUnknown, IsAbove}
-use Rattle.fd_triangles.specs.fd_derived.Accepted.{IsAccepted}
-use Rattle.fd_triangles.specs.fd_derived.Rows.{derived_row}
-use Rattle.fd_triangles.specs.fd_derived.declared.entries.Equation.{Equation}
+use Rattle.fd_bounds.specs.fd_derived.Accepted.{IsAccepted}
+use Rattle.fd_bounds.specs.fd_derived.Rows.{derived_row}
+use Rattle.fd_bounds.specs.fd_derived.declared.entries.Equation.{Equation}
 use Rattle.fd_rowcert.specs.Equations.{HaveNumbers}
 
 module _ (v : NetworkView) (m : Claim) (d : DerivedRows) (es : List Equation)

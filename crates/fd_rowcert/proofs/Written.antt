@@ -10,7 +10,7 @@ use Rattle.fd_cert.specs.fd_enclosure.fd_equations.Rounded.{jacobian_entry}
 use Rattle.fd_cert.specs.fd_enclosure.fd_exact.States.{part}
 use Rattle.fd_cert.specs.fd_enclosure.fd_pattern.Views.{NetworkView}
 use Rattle.fd_cert.proofs.CallerLemmas.{jacobian_made}
-use Rattle.fd_triangles.specs.fd_derived.declared.entries.Equation.{Equation}
+use Rattle.fd_bounds.specs.fd_derived.declared.entries.Equation.{Equation}
 use Rattle.fd_rowcert.specs.Equations.{HaveCoefficients, Tells, first_wide}
 
 pub written_back : (n : ℕ) (new old : List Equation) → length new ≡ n → length old ≡ n → (m : ℕ) → m ≡ n

@@ -1,9 +1,9 @@
 -- Rows of a matrix by their entries that aren't 0.
 use Rattle.std.specs.Prelude.{ℕ, ◌^◌, ◌≤◌, ℤ, nat_abs, nat_lt, Bool, not, eqb, List}
-use Rattle.fd_triangles.specs.Rows.{IsRowOf}
-use Rattle.fd_triangles.specs.fd_derived.Rows.{entries_of}
-use Rattle.fd_triangles.specs.fd_derived.Sums.{size_of}
-use Rattle.fd_triangles.specs.fd_derived.declared.entries.Entry.{Entry}
+use Rattle.fd_bounds.specs.fd_triangles.Rows.{IsRowOf}
+use Rattle.fd_bounds.specs.fd_derived.Rows.{entries_of}
+use Rattle.fd_bounds.specs.fd_derived.Sums.{size_of}
+use Rattle.fd_bounds.specs.fd_derived.declared.entries.Entry.{Entry}
 use Rattle.fd_cert.specs.fd_enclosure.fd_exact.Sums.{list_n, sum_n}
 use Rattle.fd_cert.specs.fd_enclosure.fd_equations.declared.cells.Cell.{Cell}
 

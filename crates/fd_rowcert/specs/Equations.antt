@@ -6,9 +6,9 @@ use Rattle.fd_cert.specs.fd_enclosure.Sound.{right_side}
 use Rattle.fd_cert.specs.fd_enclosure.fd_equations.Rounded.{jacobian_entry}
 use Rattle.fd_cert.specs.fd_enclosure.fd_exact.First.{first_place}
 use Rattle.fd_cert.specs.fd_enclosure.fd_pattern.Views.{NetworkView}
-use Rattle.fd_triangles.specs.fd_derived.Rows.{coefficient, radius, right_side_at}
-use Rattle.fd_triangles.specs.fd_derived.declared.entries.Entry.{Entry}
-use Rattle.fd_triangles.specs.fd_derived.declared.entries.Equation.{Equation}
+use Rattle.fd_bounds.specs.fd_derived.Rows.{coefficient, radius, right_side_at}
+use Rattle.fd_bounds.specs.fd_derived.declared.entries.Entry.{Entry}
+use Rattle.fd_bounds.specs.fd_derived.declared.entries.Equation.{Equation}
 use Rattle.fd_rowcert.specs.Entries.{AreEntriesOf, is_wide}
 
 -- ---- one equation

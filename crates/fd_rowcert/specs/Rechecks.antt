@@ -11,12 +11,12 @@ use Rattle.fd_cert.specs.fd_enclosure.fd_exact.First.{first_place}
 use Rattle.fd_cert.specs.fd_enclosure.fd_exact.States.{part}
 use Rattle.fd_cert.specs.fd_enclosure.fd_factors.Factors.{DerivedRow}
 use Rattle.fd_cert.specs.fd_enclosure.fd_pattern.Views.{NetworkView}
-use Rattle.fd_triangles.specs.fd_derived.Refusals.{first_refusal}
-use Rattle.fd_triangles.specs.fd_derived.Rows.{row_at}
-use Rattle.fd_triangles.specs.fd_derived.declared.entries.Claim.{Claim as RowClaim}
-use Rattle.fd_triangles.specs.fd_derived.declared.entries.Equation.{Equation}
-use Rattle.fd_triangles.specs.fd_derived.declared.refusal.Refusal.{Refusal}
-use Rattle.fd_triangles.specs.fd_derived.declared.refusal.Refusal.TheVariants as refusal
+use Rattle.fd_bounds.specs.fd_derived.Refusals.{first_refusal}
+use Rattle.fd_bounds.specs.fd_derived.Rows.{row_at}
+use Rattle.fd_bounds.specs.fd_derived.declared.entries.Claim.{Claim as RowClaim}
+use Rattle.fd_bounds.specs.fd_derived.declared.entries.Equation.{Equation}
+use Rattle.fd_bounds.specs.fd_derived.declared.refusal.Refusal.{Refusal}
+use Rattle.fd_bounds.specs.fd_derived.declared.refusal.Refusal.TheVariants as refusal
 use Rattle.fd_rowcert.specs.Equations.{AreEquationsOf, first_wide_slopes}
 use Rattle.fd_rowcert.specs.declared.broken.BrokenRow.{BrokenRow}
 use Rattle.fd_rowcert.specs.declared.broken.BrokenRow.TheVariants as broken

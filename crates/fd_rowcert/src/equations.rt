@@ -7,7 +7,7 @@ ghost use Rattle.fd_rowcert.specs.Equations.{AreEquations, HaveCoefficients, Tel
 
 use crate::entries::row_entries;
 use fd_cert::Matrix;
-use fd_triangles::Equation;
+use fd_bounds::Equation;
 use std::alloc::{AllocError, Global};
 
 // Twice a whole unit of a mismatch, in units of 2^-20: a state and its centre may each be off by one.

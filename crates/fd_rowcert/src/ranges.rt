@@ -2,11 +2,11 @@
 ghost use Rattle.std.specs.Prelude.{◌≡◌, ℕ, ◌*◌, ◌<◌, ◌≤◌, ◌^◌, nat_abs, nat_lt, length};
 ghost use Rattle.fd_cert.specs.fd_enclosure.Sound.{number_at};
 ghost use Rattle.fd_cert.specs.fd_enclosure.fd_exact.First.{first_place};
-ghost use Rattle.fd_triangles.specs.fd_derived.Rows.{derived_row, entries_of};
+ghost use Rattle.fd_bounds.specs.fd_derived.Rows.{derived_row, entries_of};
 ghost use Rattle.fd_rowcert.specs.Rechecks.{has_large as entries_have_large, has_size as claim_has_size, is_box as parts_are_box, is_far as is_far_out, is_far_at, is_high_at, is_large as row_is_large, is_large_at, is_narrow, refused_by};
 
 use crate::broken::BrokenRow;
-use fd_triangles::{Claim, Entry, Refusal, Row};
+use fd_bounds::{Claim, Entry, Refusal, Row};
 
 // The greatest size of a centre and of a radius, in whole micro-units.
 const CENTRE_LIMIT: u128 = 0x100_0000_0000;

@@ -4,15 +4,15 @@ ghost use Rattle.fd_cert.specs.Claims.{claim_in, proof_in};
 ghost use Rattle.fd_cert.specs.fd_enclosure.Boxes.{part_boxes};
 ghost use Rattle.fd_cert.specs.fd_enclosure.Sound.{IsShownByRows, IsSound, number_at};
 ghost use Rattle.fd_cert.specs.fd_enclosure.fd_pattern.Conditions.{IsPoint};
-ghost use Rattle.fd_triangles.specs.fd_derived.Accepted.{IsAccepted};
-ghost use Rattle.fd_triangles.specs.fd_derived.Refusals.{first_refusal};
+ghost use Rattle.fd_bounds.specs.fd_derived.Accepted.{IsAccepted};
+ghost use Rattle.fd_bounds.specs.fd_derived.Refusals.{first_refusal};
 ghost use Rattle.fd_rowcert.specs.Rechecks.{IsFirst, IsFirstOfState, IsRechecked, TellsFirst, first_of_ranges as first_in_range, first_of_rows, rows_claim};
 
 use crate::broken::BrokenRow;
 use crate::ranges::{first_far, first_high, first_large, first_narrow, has_size, is_box, refused};
 use crate::state::{InBox, state_equations};
 use fd_cert::{Ball, Certified, DerivedRows, NetworkRows, Support, first_untrue, row_mismatches};
-use fd_triangles::{Equation, check};
+use fd_bounds::{Equation, check};
 use std::alloc::{AllocError, Global};
 
 // The first rule that the numbers of a claim on so many unknowns break.

@@ -12,7 +12,7 @@ ghost use Rattle.fd_rowcert.specs.Equations.{AreEquationsOf, EndsBy, HaveCoeffic
 
 use crate::equations::{equations_of, set_radii};
 use fd_cert::{Matrix, NetworkRows, half_widths, radii_at};
-use fd_triangles::Equation;
+use fd_bounds::Equation;
 use std::alloc::{AllocError, Global};
 
 /// The equations of a state, and the half-widths of the box in which they have their radii.

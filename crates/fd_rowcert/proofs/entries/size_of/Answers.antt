@@ -2,7 +2,7 @@ use Rattle.std.proofs.Common.{◌∙◌, ◌+◌, ◌-◌, ◌^◌, min, nat_abs
 use Rattle.std.specs.Int.{w128}
 use Rattle.std.proofs.lemmas.Int.{to_z-of_z}
 use Rattle.fd_cert.specs.fd_enclosure.fd_equations.Amounts.{cell_at}
-use Rattle.fd_triangles.specs.fd_derived.Sums.{capped}
+use Rattle.fd_bounds.specs.fd_derived.Sums.{capped}
 use Rattle.fd_rowcert.specs.Entries.{size_in}
 use Rattle.fd_rowcert.proofs.Cells.{capped_step, size_more}
 use Rattle.fd_rowcert.proofs.entries.size_of.Goals as goal

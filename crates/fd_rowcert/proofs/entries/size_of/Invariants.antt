@@ -1,5 +1,5 @@
 use Rattle.std.proofs.Common.{◌≡◌, take}
-use Rattle.fd_triangles.specs.fd_derived.Sums.{capped}
+use Rattle.fd_bounds.specs.fd_derived.Sums.{capped}
 use Rattle.fd_rowcert.specs.Entries.{size_in}
 use Rattle.fd_rowcert.proofs.entries.size_of.Given as goal
 

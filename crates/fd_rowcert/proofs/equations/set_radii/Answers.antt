@@ -1,6 +1,6 @@
 use Rattle.std.proofs.Common.{◌≡◌, ◌∙◌, ℕ, ◌<◌, is_none, IfSome, get_or, length, arith, ap, sym, subst}
 use Rattle.std.proofs.lemmas.List.{length-set}
-use Rattle.fd_triangles.specs.fd_derived.declared.entries.Equation.{Equation}
+use Rattle.fd_bounds.specs.fd_derived.declared.entries.Equation.{Equation}
 use Rattle.fd_rowcert.specs.Entries.{AreEntriesOf}
 use Rattle.fd_rowcert.specs.Equations.{no_terms, radii_in, terms_of}
 use Rattle.fd_rowcert.proofs.Lists.{at_read}

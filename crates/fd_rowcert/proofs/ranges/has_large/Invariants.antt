@@ -1,5 +1,5 @@
 use Rattle.std.proofs.Common.{◌≡◌, ℕ, ◌<◌, ◌^◌, nat_abs, nat_lt, false, get_or}
-use Rattle.fd_triangles.specs.Rows.{entry_at}
+use Rattle.fd_bounds.specs.fd_triangles.Rows.{entry_at}
 use Rattle.fd_rowcert.proofs.ranges.has_large.Given as goal
 
 abbrev pub invariant-loop-entry : goal.invariant-loop-entry
