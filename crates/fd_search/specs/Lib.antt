@@ -1,7 +1,5 @@
-pub mod Equations
 pub mod Moves
 pub mod States
-pub mod Search
 pub mod Stages
 pub use Rattle.fd_inject.specs as fd_inject
 pub use Rattle.fd_substitution.specs as fd_substitution

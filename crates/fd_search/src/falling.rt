@@ -48,7 +48,12 @@ fn try_step(
 }
 
 /// Takes steps from a state behind so many others as long as the sum of all mismatches falls, at most 16, and gives the
-/// mismatches of the last state with which it fell.
+/// mismatches of the last state with which it fell, which `x` is then. States are in whole microvolts and microamperes.
+///
+/// # Errors
+/// `OutOfRange`, with the number of steps that are done: the first place at which a residual is past 2^42 in size; the
+/// unknown of the first place of the order with a number past 2^62 or a sum past 2^120; the first place at which a state is
+/// past 2^40. `NoMemory` where memory is refused.
 pub fn fall(
     alloc: Global,
     net: &NetworkRows,

@@ -50,6 +50,11 @@ fn step_on(
 }
 
 /// Takes steps from a state until one moves no voltage and no magnitude by more than its tolerance, and gives their number.
+/// `x` is then the state that they lead to, in whole microvolts and microamperes.
+///
+/// # Errors
+/// `OutOfRange`, with the number of steps that are done, as of `fall`. `NotConverged`: the step `max_iterations` still
+/// moves a part of a node or a magnitude by more. `NoMemory` where memory is refused.
 pub fn come_to_rest(
     alloc: Global,
     net: &NetworkRows,

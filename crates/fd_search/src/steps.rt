@@ -17,6 +17,12 @@ use std::alloc::Global;
 const PART_LIMIT: u128 = 0x100_0000_0000;
 
 /// The start: what a step makes of the constants and a state of zeros, with each magnitude at its load's nominal voltage.
+/// It is in whole microvolts and microamperes, by place.
+///
+/// # Errors
+/// `OutOfRange` at step 0: the first row whose constants are past 2^42 in size; the unknown of the first place of the order
+/// with a number past 2^62 or a sum past 2^120; the first place at which the start is past 2^40. `NoMemory` where memory is
+/// refused.
 pub fn start(
     alloc: Global,
     net: &NetworkRows,
@@ -63,6 +69,9 @@ fn update_there(
 }
 
 /// Takes a step from a state behind so many others, and gives how much it changed each unknown.
+///
+/// # Errors
+/// `OutOfRange`, with the number of steps that are done, as of `fall`. `NoMemory` where memory is refused.
 pub fn step(
     alloc: Global,
     net: &NetworkRows,
