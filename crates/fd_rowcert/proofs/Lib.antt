@@ -8,4 +8,5 @@ pub mod Written
 pub mod Numbered
 pub mod Firsts
 pub mod Tests
+pub mod Choosing
 pub mod Showing
