@@ -1,5 +1,5 @@
 -- The entries of a row's cells.
-use Rattle.std.proofs.Common.{◌≡◌, ◌≢◌, ◌∙◌, ℕ, zero, suc, ◌+◌, ◌<◌, ◌≤◌, ◌^◌, ℤ, pos, ◌+ℤ◌, nat_abs, Bool, true, false, not, cond, eqb, List, [], ◌∷◌, map, length, get_or, arith, ap, refl, sym, subst, inl, inr}
+use Rattle.std.proofs.Common.{◌≡◌, ◌≢◌, ◌∙◌, ℕ, zero, suc, ◌+◌, ◌<◌, ◌≤◌, ◌^◌, ℤ, pos, ◌+ℤ◌, nat_abs, Bool, true, false, not, cond, eqb, List, [], ◌∷◌, map, length, arith, ap, refl, sym, subst, inl, inr}
 use Rattle.std.proofs.lemmas.Bool.{cases_eq, cases_lt, eq-eqb, le-ltb, lt-ltb, ne_eqb}
 use Rattle.std.proofs.lemmas.Int.{ints}
 use Rattle.std.specs.List.{filter}
@@ -8,7 +8,7 @@ use Rattle.fd_cert.specs.fd_enclosure.fd_exact.SumLaws.{sum_z-same, sum_z-zero}
 use Rattle.fd_cert.specs.fd_enclosure.fd_equations.Amounts.{Amount, IsRowOf as IsCellRow, cell_at}
 use Rattle.fd_cert.specs.fd_enclosure.fd_equations.WalkLaws.{walk_sums}
 use Rattle.fd_cert.specs.fd_enclosure.fd_equations.declared.cells.Cell.{Cell}
-use Rattle.fd_bounds.specs.fd_triangles.Rows.{IsRising, IsRow, IsRowOf, entry_at, number}
+use Rattle.fd_bounds.specs.fd_triangles.Rows.{IsRising, entry_at, number}
 use Rattle.fd_bounds.specs.fd_derived.Rows.{entries_of}
 use Rattle.fd_bounds.specs.fd_derived.Sums.{capped, size_of}
 use Rattle.fd_bounds.specs.fd_derived.declared.entries.Entry.{Entry}

@@ -1,6 +1,5 @@
 -- The sizes of cells.
-use Rattle.std.proofs.Common.{◌≡◌, ◌∙◌, ℕ, zero, suc, ◌+◌, ◌<◌, ◌≤◌, ◌-◌, ◌^◌, min, nat_abs, List, [], ◌∷◌, length, get_or, take, arith, ap}
-use Rattle.fd_cert.specs.fd_enclosure.fd_exact.Sums.{list_n}
+use Rattle.std.proofs.Common.{◌≡◌, ℕ, zero, suc, ◌+◌, ◌<◌, ◌≤◌, ◌-◌, ◌^◌, min, nat_abs, List, [], ◌∷◌, length, take, arith}
 use Rattle.fd_cert.specs.fd_enclosure.fd_equations.Amounts.{cell_at, empty}
 use Rattle.fd_cert.specs.fd_enclosure.fd_equations.declared.cells.Cell.{Cell}
 use Rattle.fd_cert.proofs.CallerLemmas.fd_enclosure.fd_equations.{list_n_more}

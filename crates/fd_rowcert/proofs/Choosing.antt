@@ -1,10 +1,9 @@
 -- What is told of one box, read of what was found in it.
 use Rattle.std.proofs.Common.{◌≡◌, ℕ, ℤ, List, length, Result, Ok, Err, IfOk, subst, sym}
-use Rattle.fd_bounds.specs.declared.passes.Bounds.{Bounds}
 use Rattle.fd_cert.specs.fd_enclosure.fd_equations.Rounded.{jacobian_entry}
 use Rattle.fd_cert.specs.fd_enclosure.fd_pattern.Views.{NetworkView}
-use Rattle.fd_triangles.specs.fd_derived.declared.entries.Equation.{Equation}
-use Rattle.fd_triangles.specs.fd_derived.declared.entries.Row.{Row}
+use Rattle.fd_bounds.specs.fd_derived.declared.entries.Equation.{Equation}
+use Rattle.fd_bounds.specs.fd_derived.declared.entries.Row.{Row}
 use Rattle.fd_rowcert.specs.Boxed.{Either, EndsIn, StandIn}
 use Rattle.fd_rowcert.specs.Equations.{HaveCoefficients, HaveNumbersOf}
 use Rattle.fd_rowcert.specs.declared.bounding.Boxed.{Boxed}

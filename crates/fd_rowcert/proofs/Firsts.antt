@@ -1,5 +1,5 @@
 -- The first rule that is broken, step by step.
-use Rattle.std.proofs.Common.{◌≡◌, ◌∙◌, ℕ, ◌*◌, ◌^◌, ◌<◌, ◌≤◌, ℤ, Bool, true, false, cond, List, length, Option, Some, None, ap, refl, sym, subst}
+use Rattle.std.proofs.Common.{◌≡◌, ◌∙◌, ℕ, ◌*◌, ◌^◌, ◌<◌, ◌≤◌, ℤ, Bool, true, false, cond, List, length, Option, Some, None, ap, refl, sym}
 use Rattle.std.proofs.lemmas.Bool.{ltb-false}
 use Rattle.fd_cert.specs.declared.ball.DerivedRows.{DerivedRows}
 use Rattle.fd_cert.specs.fd_enclosure.Sound.{number_at}
@@ -8,7 +8,7 @@ use Rattle.fd_cert.specs.fd_enclosure.fd_exact.FirstLaws.{none_holds}
 use Rattle.fd_rowcert.specs.Rechecks.{broken_at, first_of_ranges, has_size, is_box, is_far_at, is_high_at, is_large_at, is_narrow}
 use Rattle.fd_rowcert.specs.declared.broken.BrokenRow.{BrokenRow}
 use Rattle.fd_rowcert.specs.declared.broken.BrokenRow.TheVariants as broken
-use Rattle.fd_rowcert.proofs.Numbered.{AreSized, sized}
+use Rattle.fd_rowcert.proofs.Numbered.{sized}
 
 abbrev steps : Bool → Bool → Option ℕ → Option ℕ → Option ℕ → Option BrokenRow
 steps a b f g h =

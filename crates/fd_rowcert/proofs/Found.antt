@@ -1,5 +1,5 @@
 -- Numbers of rows that are out of range.
-use Rattle.std.proofs.Common.{◌≡◌, ◌∙◌, ℕ, zero, suc, ◌+◌, ◌<◌, ◌^◌, nat_abs, nat_lt, true, false, Bool, List, [], ◌∷◌, length, get_or, map, arith, ap, refl, sym}
+use Rattle.std.proofs.Common.{◌≡◌, ◌∙◌, ℕ, zero, suc, ◌<◌, ◌^◌, nat_abs, nat_lt, true, false, Bool, List, [], ◌∷◌, length, get_or, arith, ap, refl, sym}
 use Rattle.std.specs.Prelude.{◌||◌}
 use Rattle.std.proofs.lemmas.Bool.{or_from}
 use Rattle.fd_cert.specs.fd_enclosure.Sound.{number_at}

@@ -1,10 +1,9 @@
 -- Equations that are made row by row.
-use Rattle.std.proofs.Common.{◌≡◌, ◌≢◌, ◌∙◌, ℕ, suc, ◌+◌, ◌<◌, ◌≤◌, ◌^◌, ℤ, Bool, true, false, is_none, List, [], ◌∷◌, ◌++◌, length, set, get_or, Option, Some, None, IfSome, Result, Ok, Err, arith, ap, refl, sym, subst, inl, inr}
-use Rattle.std.proofs.lemmas.Bool.{cases_eq, cases_lt}
+use Rattle.std.proofs.Common.{◌≡◌, ◌≢◌, ◌∙◌, ℕ, ◌+◌, ◌<◌, ℤ, true, false, List, [], ◌∷◌, ◌++◌, length, set, Some, None, arith, ap, refl, sym, subst, inl, inr}
+use Rattle.std.proofs.lemmas.Bool.{cases_eq}
 use Rattle.std.proofs.lemmas.List.{length_push}
 use Rattle.fd_cert.specs.fd_enclosure.Sound.{right_side}
 use Rattle.fd_cert.specs.fd_enclosure.fd_exact.FirstLaws.{first_none, first_some}
-use Rattle.fd_bounds.specs.fd_derived.declared.entries.Entry.{Entry}
 use Rattle.fd_bounds.specs.fd_derived.declared.entries.Equation.{Equation}
 use Rattle.fd_rowcert.specs.Entries.{AreEntriesOf, is_wide}
 use Rattle.fd_rowcert.specs.Equations.{AreEquations, HaveCoefficients, first_wide, no_terms, radii_in, terms_at, terms_of}

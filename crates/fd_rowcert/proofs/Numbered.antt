@@ -1,5 +1,5 @@
 -- What the numbers of a claim are that break no rule.
-use Rattle.std.proofs.Common.{◌≡◌, ◌∙◌, ℕ, ◌+◌, ◌*◌, ◌<◌, ◌≤◌, ◌^◌, ℤ, pos, nat_abs, nat_lt, not, Bool, true, false, cond, List, length, Option, Some, None, arith, refl, ap, sym, subst}
+use Rattle.std.proofs.Common.{◌≡◌, ℕ, ◌<◌, ◌≤◌, ◌^◌, ℤ, pos, nat_abs, nat_lt, Bool, true, false, cond, List, length, Option, Some, None, arith, refl, subst}
 use Rattle.std.specs.Prelude.{◌==◌, ◌||◌}
 use Rattle.std.specs.List.{All}
 use Rattle.std.proofs.lemmas.Bool.{and_parts, eqb-true, ltb-false, or_parts}
@@ -15,7 +15,7 @@ use Rattle.fd_cert.specs.fd_enclosure.fd_exact.States.{part}
 use Rattle.fd_cert.specs.fd_enclosure.fd_pattern.Conditions.{IsPart, IsPoint}
 use Rattle.fd_cert.specs.fd_enclosure.fd_pattern.Views.{NetworkView}
 use Rattle.fd_bounds.specs.fd_derived.declared.entries.Claim.{Claim}
-use Rattle.fd_rowcert.specs.Rechecks.{broken_at, first_of_ranges, first_untrue, has_size, is_box, is_far_at, is_high_at, is_large_at, rows_claim}
+use Rattle.fd_rowcert.specs.Rechecks.{broken_at, first_of_ranges, first_untrue, has_size, is_box, is_far_at, rows_claim}
 use Rattle.fd_rowcert.specs.declared.broken.BrokenRow.{BrokenRow}
 use Rattle.fd_rowcert.specs.declared.broken.BrokenRow.TheVariants as broken
 

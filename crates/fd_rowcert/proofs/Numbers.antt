@@ -1,13 +1,12 @@
 -- The numbers of a state's equations, at all places.
-use Rattle.std.proofs.Common.{◌≡◌, ◌≢◌, ◌∙◌, ℕ, zero, suc, ◌+◌, ◌*◌, ◌<◌, ◌≤◌, ◌^◌, ℤ, pos, nat_abs, cond, eqb, List, [], ◌∷◌, length, map, get_or, arith, ap, refl, sym, subst, inl, inr, ◌+ℤ◌}
+use Rattle.std.proofs.Common.{◌≡◌, ◌≢◌, ◌∙◌, ℕ, zero, suc, ◌+◌, ◌*◌, ◌<◌, ◌≤◌, ◌^◌, ℤ, pos, nat_abs, cond, List, [], ◌∷◌, length, arith, ap, refl, sym, subst, inl, inr, ◌+ℤ◌}
 use Rattle.std.specs.List.{All, Contains}
 use Rattle.std.proofs.lemmas.Bool.{cases_eq, cases_lt, eq-eqb, ne_eqb}
 use Rattle.std.proofs.lemmas.Int.{ints}
-use Rattle.std.proofs.lemmas.List.{get_or_past, length-map}
+use Rattle.std.proofs.lemmas.List.{get_or_past}
 use Rattle.std.proofs.lemmas.List.Elements.{All-contains}
 use Rattle.fd_cert.specs.Columns.{HasEntries}
-use Rattle.fd_cert.specs.Slopes.{HasRadii}
-use Rattle.fd_cert.specs.fd_enclosure.Sound.{number_at, right_side}
+use Rattle.fd_cert.specs.fd_enclosure.Sound.{right_side}
 use Rattle.fd_cert.specs.fd_enclosure.fd_equations.Amounts.{Amount}
 use Rattle.fd_cert.specs.fd_enclosure.fd_equations.Matrices.{MatrixView}
 use Rattle.fd_cert.specs.fd_enclosure.fd_pattern.Patterns.{IsInside}
@@ -16,7 +15,6 @@ use Rattle.fd_bounds.specs.fd_derived.Rows.{coefficient, coefficients_at, entrie
 use Rattle.fd_bounds.specs.fd_derived.declared.entries.Entry.{Entry}
 use Rattle.fd_bounds.specs.fd_derived.declared.entries.Equation.{Equation}
 use Rattle.fd_bounds.specs.fd_derived.fd_factors.Factors.{sizes_at, sum_at}
-use Rattle.fd_rowcert.specs.Entries.{AreEntriesOf}
 use Rattle.fd_rowcert.specs.Equations.{AreEquations, EndsBy, HaveNumbers, radii_in, terms_at}
 
 -- ---- lists as they are read

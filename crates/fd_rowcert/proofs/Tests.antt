@@ -1,5 +1,5 @@
 -- Mismatches of a claim, read of a list of the state's own.
-use Rattle.std.proofs.Common.{◌≡◌, ◌∙◌, ℕ, ◌<◌, ℤ, List, [], length, Option, Some, None, Result, Ok, Err, IfOk, ap, refl, sym, subst}
+use Rattle.std.proofs.Common.{◌≡◌, ◌∙◌, ℕ, ℤ, List, [], length, None, Result, Ok, Err, IfOk, ap}
 use Rattle.fd_cert.specs.Rechecks.{is_untrue}
 use Rattle.fd_cert.specs.Claims.{proof_in}
 use Rattle.fd_cert.specs.declared.ball.DerivedRows.{DerivedRows}

@@ -4,8 +4,8 @@ use Rattle.fd_bounds.specs.Results.{AreFirst, EndsAt}
 use Rattle.fd_bounds.specs.Rows.{AreInOrder}
 use Rattle.fd_bounds.specs.declared.passes.Bounds.{Bounds}
 use Rattle.fd_cert.specs.fd_enclosure.fd_pattern.Views.{NetworkView}
-use Rattle.fd_triangles.specs.fd_derived.declared.entries.Equation.{Equation}
-use Rattle.fd_triangles.specs.fd_derived.declared.entries.Row.{Row}
+use Rattle.fd_bounds.specs.fd_derived.declared.entries.Equation.{Equation}
+use Rattle.fd_bounds.specs.fd_derived.declared.entries.Row.{Row}
 use Rattle.fd_rowcert.specs.Equations.{AreEquationsOf, first_wide, radii_by}
 
 module _ (v : NetworkView) (x : List ℤ) (e : List ℕ) (rows : List Row) where

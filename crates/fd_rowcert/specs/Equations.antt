@@ -1,5 +1,5 @@
 -- The equations of a state of a network: the entries of its Jacobian, the radii of its slopes in a box, and its mismatches.
-use Rattle.std.specs.Prelude.{◌≡◌, ℕ, ◌<◌, ◌≤◌, ◌^◌, ℤ, pos, Bool, List, [], length, map, get_or, Option, Some, None, Result, Ok, Err}
+use Rattle.std.specs.Prelude.{◌≡◌, ℕ, ◌<◌, ◌≤◌, ℤ, pos, List, [], length, map, get_or, Option, Some, None, Result, Ok, Err}
 use Rattle.std.specs.Option.{option_or}
 use Rattle.fd_cert.specs.fd_enclosure.Radii.{part_radius}
 use Rattle.fd_cert.specs.fd_enclosure.Sound.{right_side}

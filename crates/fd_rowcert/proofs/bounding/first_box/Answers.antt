@@ -1,4 +1,3 @@
-use Rattle.std.proofs.Common.{◌≡◌, ℕ, List}
 use Rattle.fd_rowcert.specs.Boxed.{second, third, widest}
 use Rattle.fd_rowcert.proofs.Choosing.{ended, numbers_are, parts_are, stood}
 use Rattle.fd_rowcert.proofs.bounding.first_box.Goals as goal

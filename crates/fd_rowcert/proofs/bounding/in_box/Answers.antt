@@ -1,6 +1,6 @@
-use Rattle.std.proofs.Common.{◌≡◌, ◌∙◌, ℕ, List, IfOk, subst, sym}
+use Rattle.std.proofs.Common.{ℕ, List, IfOk, subst}
 use Rattle.fd_cert.specs.fd_enclosure.fd_equations.Rounded.{jacobian_entry}
-use Rattle.fd_bounds.specs.Results.{EndsAt, HasEnded}
+use Rattle.fd_bounds.specs.Results.{HasEnded}
 use Rattle.fd_rowcert.specs.Boxed.{unbounded}
 use Rattle.fd_rowcert.specs.Equations.{AreEquationsOf, HaveCoefficients}
 use Rattle.fd_rowcert.proofs.bounding.in_box.Goals as goal

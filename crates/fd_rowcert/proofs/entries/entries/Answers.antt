@@ -1,4 +1,4 @@
-use Rattle.std.proofs.Common.{◌≤◌, ◌^◌, nat_abs, arith}
+use Rattle.std.proofs.Common.{arith}
 use Rattle.fd_rowcert.proofs.Cells.{cell_size}
 use Rattle.fd_rowcert.proofs.entries.entries.Goals as goal
 

@@ -1,4 +1,3 @@
-use Rattle.std.proofs.Common.{◌≡◌, ◌∙◌, ◌<◌, ◌≤◌, ◌^◌, ap, sym, arith}
 use Rattle.fd_rowcert.proofs.CellRows.{entries_made, not_wide, small_cells, wide}
 use Rattle.fd_rowcert.proofs.entries.row_entries.Goals as goal
 

@@ -1,6 +1,4 @@
-use Rattle.std.proofs.Common.{◌≡◌, ◌∙◌, ℕ, ◌<◌, ◌+◌, ◌^◌, ◌*◌, is_none, IfSome, length, arith, ap, sym, subst}
-use Rattle.fd_cert.specs.fd_enclosure.Sound.{number_at, right_side}
-use Rattle.fd_bounds.specs.fd_derived.declared.entries.Entry.{Entry}
+use Rattle.std.proofs.Common.{◌≡◌, ◌∙◌, ◌<◌, ◌+◌, is_none, IfSome, arith, ap, sym, subst}
 use Rattle.fd_rowcert.specs.Entries.{AreEntriesOf}
 use Rattle.fd_rowcert.proofs.Loading.{AreLoaded, loaded_all, loaded_more, pushed_list, wide_first}
 use Rattle.fd_rowcert.proofs.equations.equations_of.Goals as goal

@@ -1,4 +1,4 @@
-use Rattle.std.proofs.Common.{◌≡◌, ◌∙◌, ℕ, ◌<◌, is_none, IfSome, get_or, length, arith, ap, sym, subst}
+use Rattle.std.proofs.Common.{◌≡◌, ◌∙◌, ◌<◌, is_none, IfSome, get_or, length, arith, ap, sym, subst}
 use Rattle.std.proofs.lemmas.List.{length-set}
 use Rattle.fd_bounds.specs.fd_derived.declared.entries.Equation.{Equation}
 use Rattle.fd_rowcert.specs.Entries.{AreEntriesOf}

@@ -1,4 +1,4 @@
-use Rattle.std.proofs.Common.{◌≡◌, ℕ, ℤ, length}
+use Rattle.std.proofs.Common.{ℕ}
 use Rattle.fd_cert.specs.Slopes.{HasRadii}
 use Rattle.fd_rowcert.proofs.Loading.{HaveRadii, HaveStayed}
 use Rattle.fd_rowcert.proofs.equations.set_radii.Given as goal

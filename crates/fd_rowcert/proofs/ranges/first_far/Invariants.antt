@@ -1,4 +1,4 @@
-use Rattle.std.proofs.Common.{◌≡◌, ℕ, ◌<◌, ◌^◌, nat_abs, nat_lt, false, get_or}
+use Rattle.std.proofs.Common.{◌≡◌, ℕ, ◌<◌, false}
 use Rattle.fd_rowcert.specs.Rechecks.{is_far_at}
 use Rattle.fd_rowcert.proofs.ranges.first_far.Given as goal
 

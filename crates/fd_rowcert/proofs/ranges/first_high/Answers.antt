@@ -1,9 +1,5 @@
-use Rattle.std.proofs.Common.{◌≡◌, ◌∙◌, ◌<◌, length, arith, sym, true, FitsSigned, rules}
-use Rattle.std.specs.Int.{w128}
-use Rattle.std.proofs.lemmas.Int.{to_z-of_z}
-use Rattle.fd_cert.specs.fd_enclosure.Sound.{number_at}
+use Rattle.std.proofs.Common.{◌≡◌, ◌∙◌, ◌<◌, length, arith, sym, true, rules}
 use Rattle.fd_cert.specs.fd_enclosure.fd_exact.FirstLaws.{first_none, first_some}
-use Rattle.fd_cert.specs.fd_enclosure.fd_exact.States.{part}
 use Rattle.fd_rowcert.specs.Rechecks.{is_high_at}
 use Rattle.fd_rowcert.proofs.ranges.first_high.Goals as goal
 

@@ -1,6 +1,4 @@
-use Rattle.std.proofs.Common.{◌≡◌, ◌∙◌, ◌<◌, ◌^◌, nat_abs, nat_lt, length, arith, sym, true, FitsSigned, rules}
-use Rattle.std.specs.Int.{w64}
-use Rattle.std.proofs.lemmas.Int.{to_z-of_z}
+use Rattle.std.proofs.Common.{◌≡◌, ◌∙◌, ◌^◌, nat_abs, nat_lt, arith, sym, true}
 use Rattle.fd_bounds.specs.fd_triangles.Rows.{entry_at}
 use Rattle.fd_rowcert.proofs.Found.{none_large, one_large}
 use Rattle.fd_rowcert.proofs.ranges.has_large.Goals as goal

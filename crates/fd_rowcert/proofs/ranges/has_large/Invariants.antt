@@ -1,4 +1,4 @@
-use Rattle.std.proofs.Common.{◌≡◌, ℕ, ◌<◌, ◌^◌, nat_abs, nat_lt, false, get_or}
+use Rattle.std.proofs.Common.{◌≡◌, ℕ, ◌<◌, ◌^◌, nat_abs, nat_lt, false}
 use Rattle.fd_bounds.specs.fd_triangles.Rows.{entry_at}
 use Rattle.fd_rowcert.proofs.ranges.has_large.Given as goal
 

@@ -1,4 +1,4 @@
-use Rattle.std.proofs.Common.{◌≡◌, ◌∙◌, Some, None, sym}
+use Rattle.std.proofs.Common.{◌∙◌, Some, None, sym}
 use Rattle.fd_rowcert.proofs.Firsts.{far, large, last, unboxed, unsized}
 use Rattle.fd_rowcert.proofs.rechecking.first_of_ranges.Goals as goal
 

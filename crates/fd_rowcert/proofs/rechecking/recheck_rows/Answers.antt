@@ -1,4 +1,4 @@
-use Rattle.std.proofs.Common.{◌≡◌, ◌∙◌, subst}
+use Rattle.std.proofs.Common.{◌≡◌, subst}
 use Rattle.std.proofs.Math.Path.{transport}
 use Rattle.fd_cert.specs.fd_enclosure.Boxes.{part_boxes}
 use Rattle.fd_rowcert.specs.Rechecks.{IsFirst, TellsFirst}

@@ -1,11 +1,7 @@
-use Rattle.std.proofs.Common.{◌≡◌, ◌∙◌, ℕ, ◌<◌, ◌≤◌, ◌^◌, List, IfOk, Some, None, length, ap, sym, subst, refl}
+use Rattle.std.proofs.Common.{◌≡◌, ◌∙◌, Some, None, length, ap, sym, subst, refl}
 use Rattle.fd_cert.specs.fd_enclosure.Boxes.{part_boxes}
-use Rattle.fd_cert.specs.Claims.{proof_in}
-use Rattle.fd_cert.specs.fd_enclosure.Sound.{IsShownByRows, number_at}
-use Rattle.fd_rowcert.specs.Rechecks.{IsFirst, IsFirstOfState, TellsFirst, first_of_ranges, first_untrue, mismatch, numbers, rows_claim, state}
-use Rattle.fd_rowcert.specs.declared.broken.BrokenRow.{BrokenRow}
-use Rattle.fd_rowcert.specs.declared.broken.BrokenRow.TheVariants as broken
-use Rattle.fd_rowcert.proofs.Numbered.{in_range, is_point, is_sound, tight}
+use Rattle.fd_rowcert.specs.Rechecks.{first_of_ranges, mismatch, numbers}
+use Rattle.fd_rowcert.proofs.Numbered.{in_range, is_point, tight}
 use Rattle.fd_rowcert.proofs.Tests.{sound_later, told_later, untrue_same}
 use Rattle.fd_rowcert.proofs.rechecking.tested.Goals as goal
 

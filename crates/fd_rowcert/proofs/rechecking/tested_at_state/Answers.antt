@@ -1,11 +1,8 @@
-use Rattle.std.proofs.Common.{◌≡◌, ◌∙◌, ℕ, ◌<◌, ◌≤◌, ◌^◌, ◌*◌, List, IfOk, Some, None, length, ap, sym, subst}
+use Rattle.std.proofs.Common.{◌≡◌, ◌∙◌, ◌<◌, IfOk, Some, ap, sym, subst}
 use Rattle.fd_cert.specs.fd_enclosure.Boxes.{part_boxes}
-use Rattle.fd_cert.specs.fd_enclosure.Sound.{number_at}
-use Rattle.fd_bounds.specs.fd_derived.Accepted.{IsAccepted}
 use Rattle.fd_bounds.specs.fd_derived.Refusals.{first_refusal}
-use Rattle.fd_bounds.specs.fd_derived.declared.entries.Equation.{Equation}
 use Rattle.fd_rowcert.specs.Equations.{AreEquationsOf, HaveNumbersOf, Tells, first_wide_slopes}
-use Rattle.fd_rowcert.specs.Rechecks.{IsFirstOfState, first_of_rows, told, wide, rows_claim}
+use Rattle.fd_rowcert.specs.Rechecks.{first_of_rows, told, wide, rows_claim}
 use Rattle.fd_rowcert.specs.declared.broken.BrokenRow.TheVariants as broken
 use Rattle.fd_rowcert.proofs.Showing.{shown_by_rows}
 use Rattle.fd_rowcert.proofs.rechecking.tested_at_state.Goals as goal

@@ -1,6 +1,4 @@
-use Rattle.std.proofs.Common.{◌≡◌, ◌∙◌, ℕ, pos, Some, None, List, length, ap, sym, subst}
-use Rattle.fd_cert.specs.Slopes.{HasRadii}
-use Rattle.fd_cert.specs.fd_enclosure.Boxes.{part_boxes}
+use Rattle.std.proofs.Common.{◌∙◌, pos, length, ap, sym, subst}
 use Rattle.fd_cert.specs.fd_enclosure.Radii.{part_radius}
 use Rattle.fd_cert.specs.fd_enclosure.fd_equations.Rounded.{jacobian_entry}
 use Rattle.fd_cert.specs.fd_enclosure.fd_equations.Weights.{weight_at}

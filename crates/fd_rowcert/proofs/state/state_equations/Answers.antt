@@ -1,9 +1,7 @@
 use Rattle.std.proofs.Common.{◌≡◌, ◌∙◌, ℕ, List, IfOk, length, ap, sym, subst, rules}
-use Rattle.fd_cert.specs.fd_enclosure.Radii.{part_radius}
 use Rattle.fd_cert.specs.fd_enclosure.fd_equations.Rounded.{jacobian_entry}
 use Rattle.fd_cert.specs.fd_enclosure.Boxes.{part_boxes}
 use Rattle.fd_cert.proofs.CallerLemmas.{is_made}
-use Rattle.fd_bounds.specs.fd_derived.declared.entries.Equation.{Equation}
 use Rattle.fd_rowcert.specs.Equations.{AreEquationsOf, HaveCoefficients, HaveNumbersOf, Tells, first_wide, radii_by}
 use Rattle.fd_rowcert.proofs.Written.{coefficients_told, first_told, later_told, weights_low, written_back}
 use Rattle.fd_rowcert.proofs.state.state_equations.Goals as goal
