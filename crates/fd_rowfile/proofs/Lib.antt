@@ -9,6 +9,7 @@ pub mod LineForms
 pub mod BlockForms
 pub mod Refused
 pub mod Unique
+pub mod Examples
 pub mod PairsTaken
 pub mod Pivots
 pub mod RowEnds
