@@ -47,7 +47,8 @@ rising_chosen true c cells rest above (suc i) zero l m = absurd (omega arith)
 rising_chosen true c cells rest above (suc i) (suc j) l m = rest i j (omega arith) (omega arith)
 rising_chosen false c cells rest above i j l m = rest i j l m
 
-rising_kept : (cells : List Cell) → ((i j : ℕ) → i < j → j < length cells → (cell_at cells i).col < (cell_at cells j).col)
+rising_kept : (cells : List Cell) → ((i j : ℕ) → i < j → j < length cells
+    → (cell_at cells i).col < (cell_at cells j).col)
     → IsRising (kept cells)
 rising_kept [] h = λ i j l m. absurd (omega arith)
 rising_kept (c ∷ cells) h =
@@ -69,7 +70,8 @@ no_units z h = elim (cases_eq (nat_abs z) 0) [
 chosen_number : (b : Bool) (c : Cell) (cells : List Cell) (j : ℕ) (z : ℤ) → (b ≡ false → c.units ≡ pos 0)
     → number (kept cells) j ≡ z → number (chosen b c cells) j ≡ (cond (eqb c.col j) c.units (pos 0) +ℤ z)
 chosen_number true c cells j z none e = ap (λ y. cond (eqb c.col j) c.units (pos 0) +ℤ y) e
-chosen_number false c cells j z none e = skip (cond (eqb c.col j) c.units (pos 0)) z (number (kept cells) j) (zero_at (eqb c.col j) c.units (none refl)) e
+chosen_number false c cells j z none e = skip (cond (eqb c.col j) c.units (pos 0)) z (number (kept cells) j) (zero_at
+    (eqb c.col j) c.units (none refl)) e
   where
     zero_at : (b : Bool) (z : ℤ) → z ≡ pos 0 → cond b z (pos 0) ≡ pos 0
     zero_at true z e = e
@@ -78,10 +80,12 @@ chosen_number false c cells j z none e = skip (cond (eqb c.col j) c.units (pos 0
     skip : (y z w : ℤ) → y ≡ pos 0 → w ≡ z → w ≡ (y +ℤ z)
     skip y z w e f = omega (arith, ints, e, f)
 
-kept_number : (cells : List Cell) (j : ℕ) → number (kept cells) j ≡ list_z (λ c. cond (eqb c.col j) c.units (pos 0)) cells
+kept_number : (cells : List Cell) (j : ℕ)
+    → number (kept cells) j ≡ list_z (λ c. cond (eqb c.col j) c.units (pos 0)) cells
 kept_number [] j = refl
 kept_number (c ∷ cells) j =
-    chosen_number (has_units c) c cells j (list_z (λ c. cond (eqb c.col j) c.units (pos 0)) cells) (no_units c.units) (kept_number cells j)
+    chosen_number (has_units c) c cells j (list_z (λ c. cond (eqb c.col j) c.units (pos 0)) cells) (no_units c.units)
+    (kept_number cells j)
 
 chosen_size : (b : Bool) (c : Cell) (cells : List Cell) (s : ℕ) → (b ≡ false → c.units ≡ pos 0)
     → size_of (entries_of (kept cells)) ≡ s → size_of (entries_of (chosen b c cells)) ≡ nat_abs c.units + s
@@ -141,7 +145,8 @@ list_pos f (c ∷ cells) = ap (λ z. pos (f c) +ℤ z) (list_pos f cells) ∙ jo
     joined : (a b : ℕ) → (pos a +ℤ pos b) ≡ pos (a + b)
     joined a b = omega (arith, ints)
 
-pub small_cells : (cells : List Cell) (size : ℕ) → size ≡ capped (size_in cells) → size ≤ 2 ^ 62 → size_in cells ≤ 2 ^ 62
+pub small_cells : (cells : List Cell) (size : ℕ) → size ≡ capped (size_in cells) → size ≤ 2 ^ 62
+    → size_in cells ≤ 2 ^ 62
 small_cells cells size e h = omega arith
 
 module _ (n row : ℕ) (at : ℕ × ℕ → Amount) (cells : List Cell) (is : IsCellRow n at row cells)
@@ -160,7 +165,8 @@ module _ (n row : ℕ) (at : ℕ × ℕ → Amount) (cells : List Cell) (is : Is
     wide h = let s = row_size_is in sym (lt-ltb (2 ^ 62) (row_size n (J row)) (omega (arith, s, e, h)))
 
     pub not_wide : size ≤ 2 ^ 62 → false ≡ is_wide n (J row)
-    not_wide h = let s = row_size_is in let m = small_cells cells size e h in sym (le-ltb (2 ^ 62) (row_size n (J row)) (omega (arith, s, m)))
+    not_wide h = let s = row_size_is in let m = small_cells cells size e h in sym (le-ltb (2 ^ 62) (row_size n
+        (J row)) (omega (arith, s, m)))
 
   inside_number : (j : ℕ) → j < n → number (kept cells) j ≡ J row j
   inside_number j l =
@@ -175,7 +181,8 @@ module _ (n row : ℕ) (at : ℕ × ℕ → Amount) (cells : List Cell) (is : Is
 
   outside_number : (j : ℕ) → n ≤ j → number (kept cells) j ≡ J row j
   outside_number j l =
-      let away = λ (k : ℕ) (m : k < length cells). let a = is.inside k m in let ne : (cell_at cells k).col ≢ j = omega arith in ne in
+      let away = λ (k : ℕ) (m : k < length cells). let a = is.inside k m in let ne :
+      (cell_at cells k).col ≢ j = omega arith in ne in
       kept_number cells j ∙ nowhere cells j away ∙ sym (ap (λ (a : Amount). a.units) (is.all j away)) ∙ same row j
 
   row_number : (j : ℕ) → number (kept cells) j ≡ J row j

@@ -15,5 +15,6 @@ cell_size [] k h = absurd (omega arith)
 cell_size (c ∷ cells) zero h = omega arith
 cell_size (c ∷ cells) (suc k) h = let e = cell_size cells k (omega arith) in omega arith
 
-pub capped_step : (size next u part : ℕ) → next ≡ min (size + u) (2 ^ 128 - 1) → size ≡ capped part → next ≡ capped (part + u)
+pub capped_step : (size next u part : ℕ) → next ≡ min (size + u) (2 ^ 128 - 1) → size ≡ capped part
+    → next ≡ capped (part + u)
 capped_step size next u part e f = omega arith

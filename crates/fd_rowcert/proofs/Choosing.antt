@@ -17,16 +17,20 @@ module _ (v : NetworkView) (x : List ℤ) (rows : List Row) (old : List Equation
       → StandIn v x e rows parts b.bounds
   stood h b is e have = subst Told is h e have
 
-  pub ended : Told t → (q : ℕ) → t ≡ Err q → (e : List ℕ) → HaveCoefficients v.size (jacobian_entry v x) e old → EndsIn v x e rows parts q
+  pub ended : Told t → (q : ℕ) → t ≡ Err q → (e : List ℕ) → HaveCoefficients v.size (jacobian_entry v x) e old
+      → EndsIn v x e rows parts q
   ended h q is e have = subst Told is h e have
 
   pub parts_are : IfOk t (λ (b : Boxed). b.parts ≡ parts) → (b : Boxed) → t ≡ Ok b → b.parts ≡ parts
   parts_are h b is = subst (λ t. IfOk t (λ (b : Boxed). b.parts ≡ parts)) is h
 
   pub numbers_are : (new : List Equation) → IfOk t (λ (_ : Boxed). (e : List ℕ) → length e ≡ v.size
-      → HaveCoefficients v.size (jacobian_entry v x) e old → HaveNumbersOf v parts x e new) → (b : Boxed) → t ≡ Ok b → b.parts ≡ parts
-      → (e : List ℕ) → length e ≡ v.size → HaveCoefficients v.size (jacobian_entry v x) e old → HaveNumbersOf v b.parts x e new
+      → HaveCoefficients v.size (jacobian_entry v x) e old → HaveNumbersOf v parts x e new) → (b : Boxed) → t ≡ Ok b
+      → b.parts ≡ parts
+      → (e : List ℕ) → length e ≡ v.size → HaveCoefficients v.size (jacobian_entry v x) e old
+      → HaveNumbersOf v b.parts x e new
   numbers_are new h b is same e long have =
       subst (λ p. HaveNumbersOf v p x e new) (sym same)
-      (subst (λ t. IfOk t (λ (_ : Boxed). (e : List ℕ) → length e ≡ v.size → HaveCoefficients v.size (jacobian_entry v x) e old
+      (subst (λ t. IfOk t (λ (_ : Boxed). (e : List ℕ) → length e ≡ v.size
+      → HaveCoefficients v.size (jacobian_entry v x) e old
       → HaveNumbersOf v parts x e new)) is h e long have)

@@ -26,10 +26,12 @@ large_at hs rows i h x in_hs in_rows e f =
     any_default (x ∷ hs) zero d l = refl
     any_default (x ∷ hs) (suc i) d l = any_default hs i d (omega arith)
 
-pub none_large : (row : List Entry) → ((k : ℕ) → k < length row → nat_lt (2 ^ 62) (nat_abs (entry_at row k).units) ≡ false)
+pub none_large : (row : List Entry) → ((k : ℕ) → k < length row
+    → nat_lt (2 ^ 62) (nat_abs (entry_at row k).units) ≡ false)
     → has_large (entries_of row) ≡ false
 none_large [] h = refl
-none_large (e ∷ row) h = or_from (nat_lt (2 ^ 62) (nat_abs e.units)) (has_large (entries_of row)) (h 0 (omega arith)) (none_large row (λ k l. h (suc k) (omega arith)))
+none_large (e ∷ row) h = or_from (nat_lt (2 ^ 62) (nat_abs e.units)) (has_large (entries_of row)) (h 0 (omega arith))
+    (none_large row (λ k l. h (suc k) (omega arith)))
 
 first_true : (a b : Bool) → a ≡ true → a || b ≡ true
 first_true true b e = refl
@@ -43,4 +45,5 @@ pub one_large : (row : List Entry) (k : ℕ) → k < length row → nat_lt (2 ^ 
     → has_large (entries_of row) ≡ true
 one_large [] k l h = absurd (omega arith)
 one_large (e ∷ row) zero l h = first_true (nat_lt (2 ^ 62) (nat_abs e.units)) (has_large (entries_of row)) h
-one_large (e ∷ row) (suc k) l h = second_true (nat_lt (2 ^ 62) (nat_abs e.units)) (has_large (entries_of row)) (one_large row k (omega arith) h)
+one_large (e ∷ row) (suc k) l h = second_true (nat_lt (2 ^ 62) (nat_abs e.units)) (has_large (entries_of row))
+    (one_large row k (omega arith) h)

@@ -21,7 +21,8 @@ module _ {A B : Type 0} (f : A → B) (d : B) where
   at_read (y ∷ xs) (suc i) x h = at_read xs i x (omega arith)
 
   -- one more at the end
-  pub pushed_old : (xs : List A) (i : ℕ) (x : A) → i < length xs → get_or (map f (xs ++ x ∷ [])) i d ≡ get_or (map f xs) i d
+  pub pushed_old : (xs : List A) (i : ℕ) (x : A) → i < length xs
+      → get_or (map f (xs ++ x ∷ [])) i d ≡ get_or (map f xs) i d
   pushed_old [] i x h = absurd (omega arith)
   pushed_old (y ∷ xs) zero x h = refl
   pushed_old (y ∷ xs) (suc i) x h = pushed_old xs i x (omega arith)

@@ -22,7 +22,8 @@ one_more n J m h e l lt = elim (cases_eq l m) [
 pub none_wide : (n : ℕ) (J : ℕ → ℕ → ℤ) → NoneWide n J n → first_wide n J ≡ None
 none_wide n J h = first_none (λ l. is_wide n (J l)) n h
 
-pub wide_first : (n : ℕ) (J : ℕ → ℕ → ℤ) (m : ℕ) → m < n → NoneWide n J m → true ≡ is_wide n (J m) → first_wide n J ≡ Some m
+pub wide_first : (n : ℕ) (J : ℕ → ℕ → ℤ) (m : ℕ) → m < n → NoneWide n J m → true ≡ is_wide n (J m)
+    → first_wide n J ≡ Some m
 wide_first n J m l h e = first_some (λ k. is_wide n (J k)) n m l h (sym e)
 
 -- ---- coefficients
@@ -51,14 +52,23 @@ loaded_more n J e es m q long h c r w = record {
     | inl i ↦ subst (λ k. (terms_at (es ++ q ∷ []) k).right_side ≡ right_side e k) (sym i)
         (ap (λ t. t.right_side) (pushed_new terms_of no_terms es m q (sym long)) ∙ r)
     | inr ne ↦ let low : l < m = omega arith in
-        ap (λ t. t.right_side) (pushed_old terms_of no_terms es l q (subst (λ k. l < k) (sym long) low)) ∙ h.right_sides l low
+        ap (λ t. t.right_side) (pushed_old terms_of no_terms es l q (subst (λ k. l < k) (sym long) low))
+        ∙ h.right_sides l low
   ];
   none = one_more n J m h.none w;
 }
 
 pub loaded_all : (n : ℕ) (J : ℕ → ℕ → ℤ) (e : List ℕ) (es : List Equation) → length es ≡ n → AreLoaded n J e es n
     → (first_wide n J ≡ None) × HaveCoefficients n J e es
-loaded_all n J e es long h = (none_wide n J h.none, record { long = long; entries = h.entries; right_sides = h.right_sides })
+loaded_all n J e es long h = (
+  none_wide n J h.none,
+  record {
+    long = long;
+    entries = h.entries;
+    right_sides =
+        h.right_sides;
+  },
+)
 
 -- ---- radii
 
@@ -71,7 +81,8 @@ pub record HaveStayed (old new : List Equation) : Type 0 where
 pub stayed_start : (es : List Equation) → HaveStayed es es
 stayed_start es = record { long = refl; coefficients = λ l. refl; right_sides = λ l. refl }
 
-pub still_have : (n : ℕ) (J : ℕ → ℕ → ℤ) (e : List ℕ) (old new : List Equation) → HaveStayed old new → HaveCoefficients n J e old
+pub still_have : (n : ℕ) (J : ℕ → ℕ → ℤ) (e : List ℕ) (old new : List Equation) → HaveStayed old new
+    → HaveCoefficients n J e old
     → HaveCoefficients n J e new
 still_have n J e old new s h = record {
   long = s.long ∙ h.long;
@@ -91,16 +102,19 @@ module _ (old es : List Equation) (m : ℕ) (q : Equation) (in_range : m < lengt
   terms_then : (l : ℕ) → l ≢ m → terms_at (set es m q) l ≡ terms_at es l
   terms_then l ne = at_other terms_of no_terms es m l q (λ e. ne (sym e))
 
-  pub stayed_more : HaveStayed old es → q.coefficients.items ≡ (terms_at es m).coefficients → q.right_side ≡ (terms_at es m).right_side
+  pub stayed_more : HaveStayed old es → q.coefficients.items ≡ (terms_at es m).coefficients
+      → q.right_side ≡ (terms_at es m).right_side
       → length (set es m q) ≡ length es → HaveStayed old (set es m q)
   stayed_more h c r long = record {
     long = long ∙ h.long;
     coefficients = λ l. elim (cases_eq l m) [
-      | inl e ↦ ap (λ t. t.coefficients) (terms_now l e) ∙ c ∙ sym (ap (λ k. (terms_at es k).coefficients) e) ∙ h.coefficients l
+      | inl e ↦ ap (λ t. t.coefficients) (terms_now l e) ∙ c ∙ sym (ap (λ k. (terms_at es k).coefficients) e)
+          ∙ h.coefficients l
       | inr ne ↦ ap (λ t. t.coefficients) (terms_then l ne) ∙ h.coefficients l
     ];
     right_sides = λ l. elim (cases_eq l m) [
-      | inl e ↦ ap (λ t. t.right_side) (terms_now l e) ∙ r ∙ sym (ap (λ k. (terms_at es k).right_side) e) ∙ h.right_sides l
+      | inl e ↦ ap (λ t. t.right_side) (terms_now l e) ∙ r ∙ sym (ap (λ k. (terms_at es k).right_side) e)
+          ∙ h.right_sides l
       | inr ne ↦ ap (λ t. t.right_side) (terms_then l ne) ∙ h.right_sides l
     ];
   }

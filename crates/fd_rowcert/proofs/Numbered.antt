@@ -19,7 +19,8 @@ use Rattle.fd_rowcert.specs.Rechecks.{broken_at, first_of_ranges, first_untrue, 
 use Rattle.fd_rowcert.specs.declared.broken.BrokenRow.{BrokenRow}
 use Rattle.fd_rowcert.specs.declared.broken.BrokenRow.TheVariants as broken
 
-later_none : (rule : ℕ → BrokenRow) (o : Option ℕ) (later : Option BrokenRow) → broken_at rule o later ≡ None → (o ≡ None) × (later ≡ None)
+later_none : (rule : ℕ → BrokenRow) (o : Option ℕ) (later : Option BrokenRow) → broken_at rule o later ≡ None
+    → (o ≡ None) × (later ≡ None)
 later_none rule None later e = (refl, e)
 later_none rule (Some k) later e = let no : ⊥ = cc in absurd no
 
@@ -67,7 +68,8 @@ pub record AreInRange (n : ℕ) (x : List ℤ) (r e : List ℕ) (d : DerivedRows
 within : (z : ℤ) → nat_abs z ≤ 2 ^ 40 → IsPart z
 within z h = (omega (arith, ints, h), omega (arith, ints, h))
 
-pub in_range : (n : ℕ) (x : List ℤ) (r e : List ℕ) (d : DerivedRows) → first_of_ranges n x r e d ≡ None → AreInRange n x r e d
+pub in_range : (n : ℕ) (x : List ℤ) (r e : List ℕ) (d : DerivedRows) → first_of_ranges n x r e d ≡ None
+    → AreInRange n x r e d
 unfolding first_of_ranges
 in_range n x r e d h =
     let a = tested_none (has_size n x r e d.claim) _ broken.Size h in
@@ -80,7 +82,8 @@ in_range n x r e d h =
       sizes = s;
       box = one_of 200 2000 20000 d.parts (omega arith) (omega arith) (omega arith) b.0;
       centre = All-from_get_or IsPart x (pos 0) (λ i l.
-          let m = near i (subst (λ k. i < k) s.centre l) in within (part x i) (ltb-false (2 ^ 40) (nat_abs (part x i)) m.0));
+          let m = near i (subst (λ k. i < k) s.centre l) in within (part x i) (ltb-false (2 ^ 40) (nat_abs
+          (part x i)) m.0));
       radii = λ i l. let m = near i l in ltb-false (2 ^ 40) (number_at r i) m.1;
     }
 
@@ -97,7 +100,8 @@ module _ (v : NetworkView) (x : List ℤ) (r e : List ℕ) (d : DerivedRows) (ra
           (ltb-false (number_at e l) (mismatch_at v x l) m.0, ltb-false greatest_mismatch (number_at e l) m.1)
 
       pub tight : (l : ℕ) → l < length e → number_at e l ≤ 1000
-      tight l lt = let i = in_range v.size x r e d range in let b = both l (subst (λ n. l < n) i.sizes.mismatches lt) in b.1
+      tight l lt = let i = in_range v.size x r e d range in let b = both l (subst
+          (λ n. l < n) i.sizes.mismatches lt) in b.1
 
       pub is_sound : IsShownByRows v (rows_claim v x r e d) (proof_in d) → IsSound v (rows_claim v x r e d)
       is_sound shown =

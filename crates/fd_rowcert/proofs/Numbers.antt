@@ -54,7 +54,8 @@ right_side_past (q ∷ es) (suc l) h = right_side_past es l (omega arith)
 rising_tail : (e : Entry) (row : List Entry) → IsRising (e ∷ row) → IsRising row
 rising_tail e row h i j l m = h (suc i) (suc j) (omega arith) (omega arith)
 
-none_at : (row : List Entry) (j : ℕ) → ((k : ℕ) → k < length row → (entry_at row k).place ≢ j) → sizes_at (entries_of row) j ≡ 0
+none_at : (row : List Entry) (j : ℕ) → ((k : ℕ) → k < length row → (entry_at row k).place ≢ j)
+    → sizes_at (entries_of row) j ≡ 0
 none_at [] j h = refl
 none_at (e ∷ row) j h =
     (λ i. ap (λ b. cond b (nat_abs e.units) 0) (ne_eqb e.place j (h 0 (omega arith))) i
@@ -81,7 +82,8 @@ size_is (e ∷ row) j h = elim (cases_eq e.place j) [
       others _ _ _ _ here there (size_is row j (rising_tail e row h))
 ]
   where
-    one : (n : ℕ) (z : ℤ) (a b : ℕ) (u w : ℤ) → n ≡ nat_abs z → a ≡ n → u ≡ z → b ≡ 0 → w ≡ pos 0 → a + b ≡ nat_abs (u +ℤ w)
+    one : (n : ℕ) (z : ℤ) (a b : ℕ) (u w : ℤ) → n ≡ nat_abs z → a ≡ n → u ≡ z → b ≡ 0 → w ≡ pos 0
+        → a + b ≡ nat_abs (u +ℤ w)
     one n z a b u w p q r s t = omega (arith, ints, p, q, r, s, t)
 
     others : (a b : ℕ) (u w : ℤ) → a ≡ 0 → u ≡ pos 0 → b ≡ nat_abs w → a + b ≡ nat_abs (u +ℤ w)
@@ -92,7 +94,8 @@ size_is (e ∷ row) j h = elim (cases_eq e.place j) [
 -- at the places of a matrix of n rows
 pub ends_by : (n : ℕ) (m : MatrixView) (J : ℕ → ℕ → ℤ) → All (IsInside n) m.places → HasEntries m J → EndsBy n J
 ends_by n m J inside h l j le =
-    let away : ¬ (Contains m.places (l, j)) = λ c. let i = All-contains (IsInside n) m.places (l, j) inside c in omega (arith, i.row, le) in
+    let away : ¬ (Contains m.places (l, j)) = λ c. let i = All-contains (IsInside n) m.places
+    (l, j) inside c in omega (arith, i.row, le) in
     sym (h.entries l j) ∙ ap (λ (a : Amount). a.units) (h.nothing (l, j) away)
 
 module _ (n : ℕ) (J : ℕ → ℕ → ℤ) (R : ℕ → ℕ → ℕ) (e : List ℕ) (es : List Equation) (is : AreEquations n J R e es)
@@ -110,7 +113,8 @@ module _ (n : ℕ) (J : ℕ → ℕ → ℤ) (R : ℕ → ℕ → ℕ) (e : List
   radius_is l j = elim (cases_lt l n) [
     | inl lt ↦
         let a = is.radii l lt in
-        ap (λ r. sizes_at r j) (radii_read es l) ∙ size_is (terms_at es l).radii j a.is_row.is_row.rising ∙ ap nat_abs (a.is_row.numbers j)
+        ap (λ r. sizes_at r j) (radii_read es l) ∙ size_is (terms_at es l).radii j a.is_row.is_row.rising
+        ∙ ap nat_abs (a.is_row.numbers j)
     | inr ge ↦
         ap (λ r. sizes_at r j) (radii_past es l (past l ge))
         ∙ sym (ap nat_abs (radii_end l j ge))
@@ -125,4 +129,10 @@ module _ (n : ℕ) (J : ℕ → ℕ → ℤ) (R : ℕ → ℕ → ℕ) (e : List
   ]
 
   pub have_numbers : HaveNumbers n J R e es
-  have_numbers = record { long = is.have.long; coefficients = coefficient_is; radii = radius_is; right_sides = right_side_is }
+  have_numbers = record {
+    long = is.have.long;
+    coefficients = coefficient_is;
+    radii = radius_is;
+    right_sides =
+        right_side_is;
+  }

@@ -23,19 +23,25 @@ module _ (v : NetworkView) (m : Claim) (d : DerivedRows) (es : List Equation)
 
   is_above : (i : ℕ) → i < length (proof_in d).rows
       → IsAbove v.size (length (proof_in d).rows) (2 ^ 40) (jacobian_entry v m.centre) (part_radius d.parts v m.centre)
-      (row_in (proof_in d).rows) (right_side m.mismatches) (number_at (proof_in d).heights) (number_at (proof_in d).bounds) i
+      (row_in (proof_in d).rows) (right_side m.mismatches) (number_at (proof_in d).heights) (number_at
+      (proof_in d).bounds) i
   is_above i l =
       transport (λ t. IsAbove (is.long t) (rows_long t) (2 ^ 40) (λ l j. is.coefficients l j t) (λ l j. is.radii l j t)
-      (row_in (proof_in d).rows) (λ l. is.right_sides l t) (number_at (proof_in d).heights) (number_at (proof_in d).bounds) i)
+      (row_in (proof_in d).rows) (λ l. is.right_sides l t) (number_at (proof_in d).heights) (number_at
+      (proof_in d).bounds) i)
       (accepted.above i (subst (λ n. i < n) (sym rows_long) l))
 
   is_bounded : (j : ℕ) → j < v.size
-      → BoundsUnknown v.size (length (proof_in d).rows) (2 ^ 40) (jacobian_entry v m.centre) (part_radius d.parts v m.centre)
-      (row_in (proof_in d).rows) (right_side m.mismatches) (number_at (proof_in d).heights) (number_at (proof_in d).bounds)
+      → BoundsUnknown v.size (length (proof_in d).rows) (2 ^ 40) (jacobian_entry v m.centre)
+      (part_radius d.parts v m.centre)
+      (row_in (proof_in d).rows) (right_side m.mismatches) (number_at (proof_in d).heights) (number_at
+      (proof_in d).bounds)
       (number_at (proof_in d).bounding j) j
   is_bounded j l =
-      transport (λ t. BoundsUnknown (is.long t) (rows_long t) (2 ^ 40) (λ l j. is.coefficients l j t) (λ l j. is.radii l j t)
-      (row_in (proof_in d).rows) (λ l. is.right_sides l t) (number_at (proof_in d).heights) (number_at (proof_in d).bounds)
+      transport (λ t. BoundsUnknown (is.long t) (rows_long t) (2 ^ 40) (λ l j. is.coefficients l j t)
+      (λ l j. is.radii l j t)
+      (row_in (proof_in d).rows) (λ l. is.right_sides l t) (number_at (proof_in d).heights) (number_at
+      (proof_in d).bounds)
       (number_at (proof_in d).bounding j) j)
       (accepted.bounded j (subst (λ n. j < n) (sym is.long) l))
 

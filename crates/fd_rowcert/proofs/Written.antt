@@ -33,9 +33,11 @@ weights_low n ws xs e h l lt =
     omega (arith, ints, r.0, r.1)
 
 -- what is told of the coefficients of a state
-pub coefficients_told : (v : NetworkView) (x : List ℤ) (e : List ℕ) (j : MatrixView) (t : Result (Vec Equation) ℕ) → IsMatrix v.size j (jacobian_amount v x)
+pub coefficients_told : (v : NetworkView) (x : List ℤ) (e : List ℕ) (j : MatrixView) (t : Result (Vec Equation) ℕ)
+    → IsMatrix v.size j (jacobian_amount v x)
     → ((J : ℕ → ℕ → ℤ) → HasEntries j J → Tells (first_wide j.size J) t (λ es. HaveCoefficients j.size J e es.items))
     → Tells (first_wide v.size (jacobian_entry v x)) t (λ es. HaveCoefficients v.size (jacobian_entry v x) e es.items)
 coefficients_told v x e j t is h =
-    subst (λ n. Tells (first_wide n (jacobian_entry v x)) t (λ es. HaveCoefficients n (jacobian_entry v x) e es.items)) is.size
+    subst (λ n. Tells (first_wide n (jacobian_entry v x)) t (λ es. HaveCoefficients n
+    (jacobian_entry v x) e es.items)) is.size
     (h (jacobian_entry v x) (jacobian_made v x j is))

@@ -1,4 +1,5 @@
--- The equations of a state of a network: the entries of its Jacobian, the radii of its slopes in a box, and its mismatches.
+-- The equations of a state of a network: the entries of its Jacobian, the radii of its slopes in a box, and its
+-- mismatches.
 use Rattle.std.specs.Prelude.{◌≡◌, ℕ, ◌<◌, ◌≤◌, ℤ, pos, List, [], length, map, get_or, Option, Some, None, Result, Ok, Err}
 use Rattle.std.specs.Option.{option_or}
 use Rattle.fd_cert.specs.fd_enclosure.Radii.{part_radius}
@@ -69,7 +70,8 @@ radii_by parts v x = radii_in (part_radius parts v x)
 
 -- the first row whose entries of the Jacobian are past 2^62 together; else the first whose radii are
 abbrev pub first_wide_slopes : ℕ → NetworkView → List ℤ → Option ℕ
-first_wide_slopes parts v x = option_or (first_wide v.size (jacobian_entry v x)) (first_wide v.size (radii_by parts v x))
+first_wide_slopes parts v x = option_or (first_wide v.size (jacobian_entry v x)) (first_wide v.size
+    (radii_by parts v x))
 
 -- the numbers of equations are these, at all places
 pub record HaveNumbers (n : ℕ) (J : ℕ → ℕ → ℤ) (R : ℕ → ℕ → ℕ) (e : List ℕ) (es : List Equation) : Type 0 where

@@ -24,7 +24,8 @@ use Rattle.fd_rowcert.specs.declared.broken.BrokenRow.TheVariants as broken
 -- ---- each rule
 
 abbrev pub has_size : ℕ → List ℤ → List ℕ → List ℕ → RowClaim → Bool
-has_size n x r e c = (length x == n) && ((length r == n) && ((length e == n) && ((length c.heights.items == length c.rows.items)
+has_size n x r e c = (length x == n) && ((length r == n) && ((length e == n) &&
+    ((length c.heights.items == length c.rows.items)
     && ((length c.bounding.items == n) && (length c.bounds.items == n)))))
 
 -- the boxes that a claim may have: those of 1/200, 1/2,000 and 1/20,000 of the weights
@@ -44,7 +45,8 @@ has_large row = list_any (λ t. nat_lt (2 ^ 62) (nat_abs t.1)) row
 
 -- a height is 2^87 or more, or a number of its row past 2^62 in size
 abbrev pub is_large : ℕ → DerivedRow → Bool
-is_large height row = nat_le (2 ^ 87) height || (has_large row.equations || (has_large row.others || has_large row.left))
+is_large height row = nat_le (2 ^ 87) height || (has_large row.equations ||
+    (has_large row.others || has_large row.left))
 
 abbrev pub is_large_at : RowClaim → ℕ → Bool
 is_large_at c i = is_large (number_at c.heights.items i) (row_at c.rows.items i)
@@ -108,7 +110,14 @@ module _ (v : NetworkView) (x : List ℤ) (r e : List ℕ) (d : DerivedRows) whe
 
   -- the claim, with the boxes of its centre
   abbrev pub rows_claim : Claim
-  rows_claim = record { centre = x; radii = r; mismatches = e; boxes = part_boxes d.parts v x; support = by_rows (proof_in d) }
+  rows_claim = record {
+    centre = x;
+    radii = r;
+    mismatches = e;
+    boxes = part_boxes d.parts v x;
+    support = by_rows
+        (proof_in d);
+  }
 
   -- a certified state is this claim, which breaks no rule; or the first that it breaks
   abbrev pub IsRechecked : Result Certified BrokenRow → Type 0

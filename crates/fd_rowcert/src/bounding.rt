@@ -16,7 +16,8 @@ use fd_cert::{Matrix, NetworkRows};
 use fd_bounds::{Equation, Row};
 use std::alloc::{AllocError, Global};
 
-/// Heights and bounds of rows, and the box in which they stand: that of `1 / parts` of the weights, with its half-widths.
+/// Heights and bounds of rows, and the box in which they stand: that of `1 / parts` of the weights, with its
+/// half-widths.
 #[derive(Debug, Drop)]
 pub struct Boxed {
     pub parts: u32,
@@ -42,15 +43,18 @@ fn in_box(
     requires jacobian { IsMatrix net.now.size jacobian.now (jacobian_amount net.now x.now) }
     requires long { length equations.old ≡ net.now.size }
     requires order { AreInOrderOf net.now.size rows.now }
-    ensures told { IfOk result (λ t. (e : List ℕ) → HaveCoefficients net.now.size (jacobian_entry net.now x.now) e equations.old
+    ensures told { IfOk result (λ t. (e : List ℕ)
+        → HaveCoefficients net.now.size (jacobian_entry net.now x.now) e equations.old
         → Either t (λ b. StandIn net.now x.now e rows.now parts b.bounds) (EndsIn net.now x.now e rows.now parts)) }
     ensures widths { IfOk result (λ t. IfOk t (λ b. b.boxes.items ≡ part_boxes parts net.now x.now)) }
     ensures parts { IfOk result (λ t. IfOk t (λ b. b.parts ≡ parts)) }
-    ensures kept { IfOk result (λ t. (e : List ℕ) → HaveCoefficients net.now.size (jacobian_entry net.now x.now) e equations.old
+    ensures kept { IfOk result (λ t. (e : List ℕ)
+        → HaveCoefficients net.now.size (jacobian_entry net.now x.now) e equations.old
         → HaveCoefficients net.now.size (jacobian_entry net.now x.now) e equations.new) }
     ensures claim { IfOk result (λ t. IfOk t (λ b. MakesClaim equations.new rows.now b.bounds)) }
     ensures numbers { IfOk result (λ t. IfOk t (λ _. (e : List ℕ) → length e ≡ net.now.size
-        → HaveCoefficients net.now.size (jacobian_entry net.now x.now) e equations.old → HaveNumbersOf net.now parts x.now e equations.new)) }
+        → HaveCoefficients net.now.size (jacobian_entry net.now x.now) e equations.old
+        → HaveNumbersOf net.now parts x.now e equations.new)) }
 {
     let boxes = match set_box(alloc, net, x, weights, parts, jacobian, equations)? {
         Ok(boxes) => boxes,
@@ -67,9 +71,10 @@ fn in_box(
     }
 }
 
-/// Heights and bounds of rows over the equations of the state x, in the first of the boxes of 1/200, 1/2,000 and 1/20,000 of these weights
-/// in which they stand (`fd_bounds`); or, where they stand in none, where the last one ends: the first row whose radii add up to more than
-/// 2^62 in units of 2^-40, or the unknown at which its rows have no bounds. The equations get the radii of the last box that is tried.
+/// Heights and bounds of rows over the equations of the state x, in the first of the boxes of 1/200, 1/2,000 and
+/// 1/20,000 of these weights in which they stand (`fd_bounds`); or, where they stand in none, where the last one
+/// ends: the first row whose radii add up to more than 2^62 in units of 2^-40, or the unknown at which its rows have
+/// no bounds. The equations get the radii of the last box that is tried.
 ///
 /// # Errors
 /// `AllocError` where memory is refused.
@@ -88,12 +93,15 @@ pub fn first_box(
     requires jacobian { IsMatrix net.now.size jacobian.now (jacobian_amount net.now x.now) }
     requires long { length equations.old ≡ net.now.size }
     requires order { AreInOrderOf net.now.size rows.now }
-    ensures told { IfOk result (λ t. (e : List ℕ) → HaveCoefficients net.now.size (jacobian_entry net.now x.now) e equations.old
-        → Either t (λ b. StandFirst net.now x.now e rows.now b.parts b.bounds) (StandNowhere net.now x.now e rows.now)) }
+    ensures told { IfOk result (λ t. (e : List ℕ)
+        → HaveCoefficients net.now.size (jacobian_entry net.now x.now) e equations.old
+        → Either t (λ b. StandFirst net.now x.now e rows.now b.parts b.bounds)
+        (StandNowhere net.now x.now e rows.now)) }
     ensures widths { IfOk result (λ t. IfOk t (λ b. b.boxes.items ≡ part_boxes b.parts net.now x.now)) }
     ensures claim { IfOk result (λ t. IfOk t (λ b. MakesClaim equations.new rows.now b.bounds)) }
     ensures numbers { IfOk result (λ t. IfOk t (λ b. (e : List ℕ) → length e ≡ net.now.size
-        → HaveCoefficients net.now.size (jacobian_entry net.now x.now) e equations.old → HaveNumbersOf net.now b.parts x.now e equations.new)) }
+        → HaveCoefficients net.now.size (jacobian_entry net.now x.now) e equations.old
+        → HaveNumbersOf net.now b.parts x.now e equations.new)) }
 {
     let _widest = match in_box(alloc, net, x, weights, 200, jacobian, equations, rows)? {
         Ok(boxed) => return Ok(Ok(boxed)),

@@ -55,8 +55,8 @@ fn entries(alloc: Global, cells: &[Cell]) -> Result<Vec<Entry>, AllocError>
     Ok(row)
 }
 
-/// The entries of a row of a matrix that aren't 0, in rising columns, in units of 2^-40; none where their sizes add up to more
-/// than 2^62.
+/// The entries of a row of a matrix that aren't 0, in rising columns, in units of 2^-40; none where their sizes add
+/// up to more than 2^62.
 ///
 /// # Errors
 /// `AllocError` where memory is refused.
@@ -67,7 +67,8 @@ pub fn row_entries(
 ) -> Result<Option<Vec<Entry>>, AllocError>
     requires made { IsMade matrix.now }
     requires row { row < matrix.now.size }
-    ensures wide { IfOk result (λ o. (J : ℕ → ℕ → ℤ) → HasEntries matrix.now J → is_none o ≡ is_wide matrix.now.size (J row)) }
+    ensures wide { IfOk result (λ o. (J : ℕ → ℕ → ℤ) → HasEntries matrix.now J
+        → is_none o ≡ is_wide matrix.now.size (J row)) }
     ensures entries { IfOk result (λ o. (J : ℕ → ℕ → ℤ) → HasEntries matrix.now J
         → IfSome o (λ made. AreEntriesOf matrix.now.size (J row) made.items)) }
 {

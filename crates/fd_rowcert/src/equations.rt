@@ -21,9 +21,9 @@ fn right_side(mismatch: u128) -> u128
     TWO * mismatch
 }
 
-/// The equations of the rows of a Jacobian, without radii yet, for these mismatches: their coefficients are its entries that aren't 0,
-/// in units of 2^-40, their right sides twice the mismatches, in 2^-20 of a whole unit. Or the first row whose sizes add up to more than
-/// 2^62.
+/// The equations of the rows of a Jacobian, without radii yet, for these mismatches: their coefficients are its
+/// entries that aren't 0, in units of 2^-40, their right sides twice the mismatches, in 2^-20 of a whole unit. Or the
+/// first row whose sizes add up to more than 2^62.
 ///
 /// # Errors
 /// `AllocError` where memory is refused.
@@ -52,8 +52,8 @@ pub fn equations_of(
     Ok(Ok(equations))
 }
 
-/// Gives equations the radii of a matrix, and takes those that they had. Answers none, or the first row whose radii add up to more than
-/// 2^62; then some equations have the new radii and some the old.
+/// Gives equations the radii of a matrix, and takes those that they had. Answers none, or the first row whose radii
+/// add up to more than 2^62; then some equations have the new radii and some the old.
 ///
 /// # Errors
 /// `AllocError` where memory is refused.
@@ -64,11 +64,13 @@ pub fn set_radii(
 ) -> Result<Option<usize>, AllocError>
     requires made { IsMade radii.now }
     requires long { length equations.old ≡ radii.now.size }
-    ensures first { IfOk result (λ wide. (R : ℕ → ℕ → ℕ) → HasRadii radii.now R → wide ≡ first_wide radii.now.size (radii_in R)) }
+    ensures first { IfOk result (λ wide. (R : ℕ → ℕ → ℕ) → HasRadii radii.now R
+        → wide ≡ first_wide radii.now.size (radii_in R)) }
     ensures kept { IfOk result (λ wide. (J : ℕ → ℕ → ℤ) (e : List ℕ) → HaveCoefficients radii.now.size J e equations.old
         → HaveCoefficients radii.now.size J e equations.new) }
     ensures equations { IfOk result (λ wide. wide ≡ None → (J : ℕ → ℕ → ℤ) (R : ℕ → ℕ → ℕ) (e : List ℕ)
-        → HaveCoefficients radii.now.size J e equations.old → HasRadii radii.now R → AreEquations radii.now.size J R e equations.new) }
+        → HaveCoefficients radii.now.size J e equations.old → HasRadii radii.now R
+        → AreEquations radii.now.size J R e equations.new) }
 {
     for row in 0..radii.size() {
         match row_entries(alloc, radii, row)? {

@@ -52,7 +52,8 @@ fn rows_broken(
 ) -> Result<Option<BrokenRow>, AllocError>
     requires long { length radius.now ≡ length rows.now.claim.bounds.items }
     requires small { (j : ℕ) → j < length rows.now.claim.bounds.items → number_at radius.now j ≤ 2 ^ 40 }
-    ensures first { IfOk result (λ o. o ≡ first_of_rows (first_refusal equations.now rows.now.claim) rows.now.claim.bounds.items radius.now
+    ensures first { IfOk result (λ o. o ≡ first_of_rows
+        (first_refusal equations.now rows.now.claim) rows.now.claim.bounds.items radius.now
         (length rows.now.claim.bounds.items)) }
     ensures accepted { IfOk result (λ o. o ≡ None → IsAccepted equations.now rows.now.claim) }
     ensures wide { IfOk result (λ o. o ≡ None → (j : ℕ) → j < length rows.now.claim.bounds.items
@@ -121,9 +122,10 @@ fn tested(
     tested_at_state(alloc, net, centre, radius, mismatch, rows)
 }
 
-/// A ball, the mismatches of rows and derived rows as a certified state, with the half-widths of its box, where they break no rule of
-/// `BrokenRow`; else the first that they break, whoever claims them. All is computed anew, in whole numbers. A certified state is sound. The
-/// lists become the certified state's. Nothing is computed of a claim whose size or whose range is broken.
+/// A ball, the mismatches of rows and derived rows as a certified state, with the half-widths of its box, where they
+/// break no rule of `BrokenRow`; else the first that they break, whoever claims them. All is computed anew, in whole
+/// numbers. A certified state is sound. The lists become the certified state's. Nothing is computed of a claim whose
+/// size or whose range is broken.
 ///
 /// # Errors
 /// `AllocError` where memory is refused.

@@ -29,8 +29,9 @@ fn ends(matrix: &Matrix)
     let _places = matrix.pattern().places();
 }
 
-/// Gives the equations of the state x the radii of slopes in the box of `1 / parts` of these weights. Answers the half-widths of the
-/// box, by unknown in whole microvolts; or the first row whose radii add up to more than 2^62 in units of 2^-40.
+/// Gives the equations of the state x the radii of slopes in the box of `1 / parts` of these weights. Answers the
+/// half-widths of the box, by unknown in whole microvolts; or the first row whose radii add up to more than 2^62 in
+/// units of 2^-40.
 ///
 /// # Errors
 /// `AllocError` where memory is refused.
@@ -51,12 +52,15 @@ pub fn set_box(
     requires long { length equations.old ≡ net.now.size }
     ensures told { IfOk result (λ t. Tells (first_wide net.now.size (radii_by parts net.now x.now)) t
         (λ boxes. boxes.items ≡ part_boxes parts net.now x.now)) }
-    ensures kept { IfOk result (λ t. (e : List ℕ) → HaveCoefficients net.now.size (jacobian_entry net.now x.now) e equations.old
+    ensures kept { IfOk result (λ t. (e : List ℕ)
+        → HaveCoefficients net.now.size (jacobian_entry net.now x.now) e equations.old
         → HaveCoefficients net.now.size (jacobian_entry net.now x.now) e equations.new) }
-    ensures equations { IfOk result (λ t. IfOk t (λ _. (e : List ℕ) → HaveCoefficients net.now.size (jacobian_entry net.now x.now) e equations.old
+    ensures equations { IfOk result (λ t. IfOk t (λ _. (e : List ℕ)
+        → HaveCoefficients net.now.size (jacobian_entry net.now x.now) e equations.old
         → AreEquationsOf net.now parts x.now e equations.new)) }
     ensures numbers { IfOk result (λ t. IfOk t (λ _. (e : List ℕ) → length e ≡ net.now.size
-        → HaveCoefficients net.now.size (jacobian_entry net.now x.now) e equations.old → HaveNumbersOf net.now parts x.now e equations.new)) }
+        → HaveCoefficients net.now.size (jacobian_entry net.now x.now) e equations.old
+        → HaveNumbersOf net.now parts x.now e equations.new)) }
 {
     let boxes = half_widths(alloc, net, weights, parts)?;
     let radii = radii_at(alloc, net, x, &boxes, jacobian)?;
@@ -68,9 +72,10 @@ pub fn set_box(
     }
 }
 
-/// The equations of the state x of a network in the box of `1 / parts` of its weights, for these mismatches: coefficients are the entries
-/// of its Jacobian, radii those of slopes in the box, both in units of 2^-40; right sides are twice the mismatches, in 2^-20 of a whole
-/// microampere or microvolt. Or the first row whose coefficients add up to more than 2^62 in size, and where there is none, whose radii do.
+/// The equations of the state x of a network in the box of `1 / parts` of its weights, for these mismatches:
+/// coefficients are the entries of its Jacobian, radii those of slopes in the box, both in units of 2^-40; right
+/// sides are twice the mismatches, in 2^-20 of a whole microampere or microvolt. Or the first row whose coefficients
+/// add up to more than 2^62 in size, and where there is none, whose radii do.
 ///
 /// # Errors
 /// `AllocError` where memory is refused.
@@ -87,7 +92,8 @@ pub fn state_equations(
     requires tight { (l : ℕ) → l < length mismatch.now → number_at mismatch.now l ≤ 1000 }
     ensures equations { IfOk result (λ t. Tells (first_wide_slopes parts net.now x.now) t
         (λ s. AreEquationsOf net.now parts x.now mismatch.now s.equations.items)) }
-    ensures numbers { IfOk result (λ t. IfOk t (λ s. HaveNumbersOf net.now parts x.now mismatch.now s.equations.items)) }
+    ensures numbers { IfOk result (λ t. IfOk t
+        (λ s. HaveNumbersOf net.now parts x.now mismatch.now s.equations.items)) }
     ensures boxes { IfOk result (λ t. IfOk t (λ s. s.boxes.items ≡ part_boxes parts net.now x.now)) }
 {
     let jacobian = net.jacobian(alloc, x)?;

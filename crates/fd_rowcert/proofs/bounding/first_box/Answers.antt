@@ -20,8 +20,11 @@ returns-in-Ok-2-clause-told c = λ e h.
     let es = c.in_box.new.equations in
     let t = c.in_ok-boxed-2.field-0 in
     let told = c.in_ok-boxed-2.ensures in
-    second (parts_are v x rows es 2000 t told.parts c.in-Ok-2.boxed c.in-Ok-2.is)
-    (c.in-Err.end, ended v x rows c.args.equations.now 200 c.in_ok-boxed.field-0 c.in_ok-boxed.ensures.told c.in-Err.end c.in-Err.is e h)
+    second (parts_are v x rows es 2000 t told.parts c.in-Ok-2.boxed c.in-Ok-2.is) (
+      c.in-Err.end,
+      ended v x rows c.args.equations.now 200 c.in_ok-boxed.field-0 c.in_ok-boxed.ensures.told
+          c.in-Err.end c.in-Err.is e h,
+    )
     (stood v x rows es 2000 t told.told c.in-Ok-2.boxed c.in-Ok-2.is e (c.in_ok-boxed.ensures.kept e h))
 
 pub returns-in-Ok-2-clause-numbers : goal.returns-in-Ok-2-clause-numbers
@@ -44,8 +47,11 @@ returns-in-Ok-3-clause-told c = λ e h.
     let t = c.in_ok-boxed-3.field-0 in
     let told = c.in_ok-boxed-3.ensures in
     let kept = c.in_ok-boxed.ensures.kept e h in
-    third (parts_are v x rows es 20000 t told.parts c.in-Ok-3.boxed c.in-Ok-3.is)
-    (c.in-Err.end, ended v x rows c.args.equations.now 200 c.in_ok-boxed.field-0 c.in_ok-boxed.ensures.told c.in-Err.end c.in-Err.is e h) (
+    third (parts_are v x rows es 20000 t told.parts c.in-Ok-3.boxed c.in-Ok-3.is) (
+      c.in-Err.end,
+      ended v x rows c.args.equations.now 200 c.in_ok-boxed.field-0 c.in_ok-boxed.ensures.told
+          c.in-Err.end c.in-Err.is e h,
+    ) (
       c.in-Err-2.end,
       ended v x rows c.in_box.new.equations 2000 c.in_ok-boxed-2.field-0 c.in_ok-boxed-2.ensures.told c.in-Err-2.end
           c.in-Err-2.is e kept,
@@ -81,6 +87,7 @@ returns-in-Err-3-clause-told c = λ e h.
         ended v x rows c.in_box.new.equations 2000 c.in_ok-boxed-2.field-0 c.in_ok-boxed-2.ensures.told
             c.in-Err-2.end c.in-Err-2.is e kept,
       );
-      last = ended v x rows c.in_box-2.new.equations 20000 c.in_ok-boxed-3.field-0 c.in_ok-boxed-3.ensures.told c.in-Err-3.end
+      last = ended v x rows c.in_box-2.new.equations 20000 c.in_ok-boxed-3.field-0 c.in_ok-boxed-3.ensures.told
+          c.in-Err-3.end
           c.in-Err-3.is e (c.in_ok-boxed-2.ensures.kept e kept);
     }

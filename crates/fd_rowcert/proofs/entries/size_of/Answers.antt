@@ -15,5 +15,6 @@ loop-cell-preserved c =
     let fits : FitsSigned w128 u = search rules in
     let size = c.unsigned_abs.ensures.value ∙ ap nat_abs (to_z-of_z w128 u fits) in
     let next = c.saturating_add-size.ensures ∙ ap (λ x. min (c.loop-cell.size + x) (2 ^ 128 - 1)) size in
-    capped_step c.loop-cell.size c.saturating_add-size.result (nat_abs u) (size_in (take k cells)) next c.loop-cell.invariant
+    capped_step c.loop-cell.size c.saturating_add-size.result (nat_abs u) (size_in
+    (take k cells)) next c.loop-cell.invariant
     ∙ ap capped (sym (size_more cells k c.loop-cell-test.true))

@@ -14,18 +14,23 @@ pub loop-row-preserved : goal.loop-row-preserved
 loop-row-preserved c =
     let m = c.args.jacobian.now in
     record {
-      long = pushed_list c.loop-row.equations.items c.push.new.self.items _ c.loop-row.row c.loop-row.invariant.long c.in_ok-push-in-Some.ensures.items;
+      long = pushed_list c.loop-row.equations.items c.push.new.self.items _ c.loop-row.row c.loop-row.invariant.long
+          c.in_ok-push-in-Some.ensures.items;
       loaded = λ J h.
-          let made = subst (λ o. IfSome o (λ es. AreEntriesOf m.size (J c.loop-row.row) es.items)) c.in-Some.is (c.in_ok-coefficients.ensures.entries J h) in
+          let made = subst (λ o. IfSome o (λ es. AreEntriesOf m.size (J c.loop-row.row) es.items)) c.in-Some.is
+          (c.in_ok-coefficients.ensures.entries J h) in
           let narrow = sym (ap is_none c.in-Some.is) ∙ c.in_ok-coefficients.ensures.wide J h in
-          subst (λ es. AreLoaded m.size J c.args.mismatch.now es (c.loop-row.row + 1)) (sym c.in_ok-push-in-Some.ensures.items)
-          (loaded_more m.size J c.args.mismatch.now c.loop-row.equations.items c.loop-row.row _ c.loop-row.invariant.long
+          subst (λ es. AreLoaded m.size J c.args.mismatch.now es (c.loop-row.row + 1))
+          (sym c.in_ok-push-in-Some.ensures.items)
+          (loaded_more m.size J c.args.mismatch.now c.loop-row.equations.items c.loop-row.row _
+          c.loop-row.invariant.long
           (c.loop-row.invariant.loaded J h) made c.right_side.ensures narrow);
     }
 
 pub returns : goal.returns
 returns c = λ J h.
     let m = c.args.jacobian.now in
-    let all : c.loop-row.row ≡ m.size = omega (arith, c.loop-row.auto.row-end, c.loop-row-test.false, c.size-row-end.ensures.size) in
+    let all : c.loop-row.row ≡ m.size = omega
+    (arith, c.loop-row.auto.row-end, c.loop-row-test.false, c.size-row-end.ensures.size) in
     loaded_all m.size J c.args.mismatch.now c.loop-row.equations.items (c.loop-row.invariant.long ∙ all)
     (subst (AreLoaded m.size J c.args.mismatch.now c.loop-row.equations.items) all (c.loop-row.invariant.loaded J h))

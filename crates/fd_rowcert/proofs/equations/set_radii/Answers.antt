@@ -41,12 +41,23 @@ loop-row-preserved c =
 pub returns-clause-first : goal.returns-clause-first
 returns-clause-first c = λ R h.
     let n = c.args.radii.now.size in
-    let all : c.loop-row.row ≡ n = omega (arith, c.loop-row.auto.row-end, c.loop-row-test.false, c.size-row-end.ensures.size) in
-    sym (none_wide n (radii_in R) (subst (HaveRadii n R c.loop-row.equations) all (c.loop-row.invariant.radii R h)).none)
+    let all : c.loop-row.row ≡ n = omega (
+      arith,
+      c.loop-row.auto.row-end,
+      c.loop-row-test.false,
+      c.size-row-end.ensures.size,
+    ) in
+    sym (none_wide n (radii_in R) (subst (HaveRadii n R c.loop-row.equations) all
+    (c.loop-row.invariant.radii R h)).none)
 
 pub returns-clause-equations : goal.returns-clause-equations
 returns-clause-equations c = λ none J R e have h.
     let n = c.args.radii.now.size in
-    let all : c.loop-row.row ≡ n = omega (arith, c.loop-row.auto.row-end, c.loop-row-test.false, c.size-row-end.ensures.size) in
+    let all : c.loop-row.row ≡ n = omega (
+      arith,
+      c.loop-row.auto.row-end,
+      c.loop-row-test.false,
+      c.size-row-end.ensures.size,
+    ) in
     radii_all n J R e c.args.equations.now c.loop-row.equations c.loop-row.invariant.stayed
     (subst (HaveRadii n R c.loop-row.equations) all (c.loop-row.invariant.radii R h)) have

@@ -12,10 +12,13 @@ returns-then-is_far c =
     let k = c.loop-place.place in
     let k_in : k < length c.args.centre.now = search rules in
     let fits : FitsSigned w128 (part c.args.centre.now k) = search rules in
-    let is : c.is_far.result ≡ is_far (part c.args.centre.now k) (number_at c.args.radius.now k) = simp to_z-of_z at c.is_far.ensures in
+    let is : c.is_far.result ≡ is_far (part c.args.centre.now k)
+    (number_at c.args.radius.now k) = simp to_z-of_z at c.is_far.ensures in
     let tested : is_far_at c.args.centre.now c.args.radius.now k ≡ true = sym is ∙ c.if-is_far.true in
-    sym (first_some (is_far_at c.args.centre.now c.args.radius.now) (length c.args.centre.now) k k_in c.loop-place.invariant tested)
+    sym (first_some (is_far_at c.args.centre.now c.args.radius.now)
+    (length c.args.centre.now) k k_in c.loop-place.invariant tested)
 
 pub returns : goal.returns
 returns c =
-    sym (first_none (is_far_at c.args.centre.now c.args.radius.now) (length c.args.centre.now) (λ k l. c.loop-place.invariant k (omega (arith, l, c.loop-place-test.false))))
+    sym (first_none (is_far_at c.args.centre.now c.args.radius.now) (length c.args.centre.now)
+    (λ k l. c.loop-place.invariant k (omega (arith, l, c.loop-place-test.false))))

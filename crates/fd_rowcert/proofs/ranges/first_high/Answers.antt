@@ -12,4 +12,5 @@ returns-then-is_high c =
 
 pub returns : goal.returns
 returns c =
-    sym (first_none (is_high_at c.args.bounds.now) (length c.args.bounds.now) (λ k l. c.loop-unknown.invariant k (omega (arith, l, c.loop-unknown-test.false))))
+    sym (first_none (is_high_at c.args.bounds.now) (length c.args.bounds.now) (λ k l. c.loop-unknown.invariant k
+    (omega (arith, l, c.loop-unknown-test.false))))

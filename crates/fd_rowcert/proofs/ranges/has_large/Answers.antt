@@ -11,4 +11,5 @@ returns-then-is_large_entry c =
     sym (one_large c.args.entries.now k c.loop-entry-test.true tested)
 
 pub returns : goal.returns
-returns c = sym (none_large c.args.entries.now (λ k l. c.loop-entry.invariant k (omega (arith, l, c.loop-entry-test.false))))
+returns c = sym (none_large c.args.entries.now (λ k l. c.loop-entry.invariant k (omega
+    (arith, l, c.loop-entry-test.false))))

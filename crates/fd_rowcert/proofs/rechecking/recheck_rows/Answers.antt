@@ -12,9 +12,11 @@ returns-in-Ok-clause-first c =
     let x = c.deref.ensures.value in
     let r = c.deref-2.ensures.value in
     let e = c.deref-3.ensures.value in
-    let t = subst (λ t. TellsFirst (IsFirst v c.args.ball.centre.items c.args.ball.radius.items c.args.mismatch.items d) t
+    let t = subst (λ t. TellsFirst (IsFirst v c.args.ball.centre.items c.args.ball.radius.items c.args.mismatch.items
+    d) t
     (λ boxes. boxes.items ≡ part_boxes d.parts v c.args.ball.centre.items)) c.in-Ok.is
-    (transport (λ i. TellsFirst (IsFirst v (x i) (r i) (e i) d) c.in_ok-boxes.field-0 (λ boxes. boxes.items ≡ part_boxes d.parts v (x i))) c.in_ok-boxes.ensures.told) in
+    (transport (λ i. TellsFirst (IsFirst v (x i) (r i) (e i) d) c.in_ok-boxes.field-0
+    (λ boxes. boxes.items ≡ part_boxes d.parts v (x i))) c.in_ok-boxes.ensures.told) in
     (t.0, is_claim v c.args.ball.centre.items c.args.ball.radius.items c.args.mismatch.items d c.in-Ok.boxes.items t.1)
 
 pub returns-in-Err-clause-first : goal.returns-in-Err-clause-first
@@ -26,4 +28,5 @@ returns-in-Err-clause-first c =
     let e = c.deref-3.ensures.value in
     subst (λ t. TellsFirst (IsFirst v c.args.ball.centre.items c.args.ball.radius.items c.args.mismatch.items d) t
     (λ boxes. boxes.items ≡ part_boxes d.parts v c.args.ball.centre.items)) c.in-Err.is
-    (transport (λ i. TellsFirst (IsFirst v (x i) (r i) (e i) d) c.in_ok-boxes.field-0 (λ boxes. boxes.items ≡ part_boxes d.parts v (x i))) c.in_ok-boxes.ensures.told)
+    (transport (λ i. TellsFirst (IsFirst v (x i) (r i) (e i) d) c.in_ok-boxes.field-0
+    (λ boxes. boxes.items ≡ part_boxes d.parts v (x i))) c.in_ok-boxes.ensures.told)

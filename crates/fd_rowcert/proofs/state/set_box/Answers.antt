@@ -10,7 +10,8 @@ use Rattle.fd_rowcert.proofs.state.set_box.Goals as goal
 
 pub half_widths-requires-clause-long : goal.half_widths-requires-clause-long
 half_widths-requires-clause-long c =
-    ap length c.requires.weights ∙ length-list_of c.args.net.now.size (λ place. pos (weight_at c.args.net.now c.args.x.now place))
+    ap length c.requires.weights ∙ length-list_of c.args.net.now.size (λ place. pos
+    (weight_at c.args.net.now c.args.x.now place))
 
 pub radii_at-requires-clause-boxes : goal.radii_at-requires-clause-boxes
 radii_at-requires-clause-boxes c =
@@ -18,7 +19,8 @@ radii_at-requires-clause-boxes c =
     let x = c.args.x.now in
     have_widths c.args.parts v x c.deref.result.now
     (c.deref.ensures.value
-    ∙ boxes_are c.args.parts v x c.args.weights.now c.in_ok-boxes.boxes.items (weights_at v x c.args.weights.now c.requires.weights) c.in_ok-boxes.ensures)
+    ∙ boxes_are c.args.parts v x c.args.weights.now c.in_ok-boxes.boxes.items
+    (weights_at v x c.args.weights.now c.requires.weights) c.in_ok-boxes.ensures)
     c.requires.parts c.requires.point
 
 pub set_radii-requires-clause-made : goal.set_radii-requires-clause-made
@@ -26,7 +28,8 @@ set_radii-requires-clause-made c =
     let v = c.args.net.now in
     let x = c.args.x.now in
     let is = c.deref.ensures.value
-    ∙ boxes_are c.args.parts v x c.args.weights.now c.in_ok-boxes.boxes.items (weights_at v x c.args.weights.now c.requires.weights) c.in_ok-boxes.ensures in
+    ∙ boxes_are c.args.parts v x c.args.weights.now c.in_ok-boxes.boxes.items
+    (weights_at v x c.args.weights.now c.requires.weights) c.in_ok-boxes.ensures in
     record {
       long = c.in_ok-radii.ensures.long;
       J = radii_by c.args.parts v x;
@@ -38,7 +41,8 @@ returns-in-Some-clause-told c =
     let v = c.args.net.now in
     let x = c.args.x.now in
     let R = part_radius c.args.parts v x in
-    let is = boxes_are c.args.parts v x c.args.weights.now c.in_ok-boxes.boxes.items (weights_at v x c.args.weights.now c.requires.weights)
+    let is = boxes_are c.args.parts v x c.args.weights.now c.in_ok-boxes.boxes.items
+    (weights_at v x c.args.weights.now c.requires.weights)
     c.in_ok-boxes.ensures in
     let radii = c.in_ok-radii.ensures.radii c.args.parts (c.deref.ensures.value ∙ is) in
     ap (λ n. first_wide n (radii_in R)) (sym c.in_ok-radii.ensures.size)
@@ -49,7 +53,8 @@ returns-in-None-clause-told c =
     let v = c.args.net.now in
     let x = c.args.x.now in
     let R = part_radius c.args.parts v x in
-    let is = boxes_are c.args.parts v x c.args.weights.now c.in_ok-boxes.boxes.items (weights_at v x c.args.weights.now c.requires.weights)
+    let is = boxes_are c.args.parts v x c.args.weights.now c.in_ok-boxes.boxes.items
+    (weights_at v x c.args.weights.now c.requires.weights)
     c.in_ok-boxes.ensures in
     let radii = c.in_ok-radii.ensures.radii c.args.parts (c.deref.ensures.value ∙ is) in (
       ap (λ n. first_wide n (radii_in R)) (sym c.in_ok-radii.ensures.size)
@@ -61,13 +66,15 @@ pub returns-in-Some-clause-kept : goal.returns-in-Some-clause-kept
 returns-in-Some-clause-kept c = λ e h.
     let J = jacobian_entry c.args.net.now c.args.x.now in
     subst (λ n. HaveCoefficients n J e c.set_radii.new.equations) c.in_ok-radii.ensures.size
-    (c.in_ok-row.ensures.kept J e (subst (λ n. HaveCoefficients n J e c.args.equations.now) (sym c.in_ok-radii.ensures.size) h))
+    (c.in_ok-row.ensures.kept J e (subst (λ n. HaveCoefficients n J e c.args.equations.now)
+    (sym c.in_ok-radii.ensures.size) h))
 
 pub returns-in-None-clause-kept : goal.returns-in-None-clause-kept
 returns-in-None-clause-kept c = λ e h.
     let J = jacobian_entry c.args.net.now c.args.x.now in
     subst (λ n. HaveCoefficients n J e c.set_radii.new.equations) c.in_ok-radii.ensures.size
-    (c.in_ok-row.ensures.kept J e (subst (λ n. HaveCoefficients n J e c.args.equations.now) (sym c.in_ok-radii.ensures.size) h))
+    (c.in_ok-row.ensures.kept J e (subst (λ n. HaveCoefficients n J e c.args.equations.now)
+    (sym c.in_ok-radii.ensures.size) h))
 
 pub returns-in-None-clause-equations : goal.returns-in-None-clause-equations
 returns-in-None-clause-equations c = λ e h.
@@ -75,7 +82,8 @@ returns-in-None-clause-equations c = λ e h.
     let v = c.args.net.now in
     let x = c.args.x.now in
     let R = part_radius c.args.parts v x in
-    let is = boxes_are c.args.parts v x c.args.weights.now c.in_ok-boxes.boxes.items (weights_at v x c.args.weights.now c.requires.weights)
+    let is = boxes_are c.args.parts v x c.args.weights.now c.in_ok-boxes.boxes.items
+    (weights_at v x c.args.weights.now c.requires.weights)
     c.in_ok-boxes.ensures in
     let radii = c.in_ok-radii.ensures.radii c.args.parts (c.deref.ensures.value ∙ is) in
     subst (λ n. AreEquations n J R e c.set_radii.new.equations) c.in_ok-radii.ensures.size
@@ -88,7 +96,8 @@ returns-in-None-clause-numbers c = λ e long h.
     let x = c.args.x.now in
     let J = jacobian_entry v x in
     let R = part_radius c.args.parts v x in
-    let is = boxes_are c.args.parts v x c.args.weights.now c.in_ok-boxes.boxes.items (weights_at v x c.args.weights.now c.requires.weights)
+    let is = boxes_are c.args.parts v x c.args.weights.now c.in_ok-boxes.boxes.items
+    (weights_at v x c.args.weights.now c.requires.weights)
     c.in_ok-boxes.ensures in
     let radii = c.in_ok-radii.ensures.radii c.args.parts (c.deref.ensures.value ∙ is) in
     let j = c.requires.jacobian in
