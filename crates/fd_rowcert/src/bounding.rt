@@ -11,9 +11,8 @@ ghost use Rattle.fd_rowcert.specs.Boxed.{AreInOrderOf, Either, EndsIn, StandFirs
 ghost use Rattle.fd_rowcert.specs.Equations.{HaveCoefficients, HaveNumbersOf};
 
 use crate::state::set_box;
-use fd_bounds::{BoundFault, Bounds, bound_rows};
+use fd_bounds::{BoundFault, Bounds, Equation, Row, bound_rows};
 use fd_cert::{Matrix, NetworkRows};
-use fd_bounds::{Equation, Row};
 use std::alloc::{AllocError, Global};
 
 /// Heights and bounds of rows, and the box in which they stand: that of `1 / parts` of the weights, with its

@@ -5,8 +5,8 @@ ghost use Rattle.fd_bounds.specs.fd_derived.Sums.{capped};
 ghost use Rattle.fd_cert.specs.Columns.{HasEntries, IsMade};
 ghost use Rattle.fd_rowcert.specs.Entries.{AreEntriesOf, entry_in, has_units as cell_has_units, is_wide, size_in};
 
-use fd_cert::{Cell, Matrix};
 use fd_bounds::Entry;
+use fd_cert::{Cell, Matrix};
 use std::alloc::{AllocError, Global};
 
 // The most that the sizes of a row's entries may add up to, 2^62 in units of 2^-40.

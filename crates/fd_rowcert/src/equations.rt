@@ -6,8 +6,8 @@ ghost use Rattle.fd_cert.specs.fd_enclosure.Sound.{number_at, right_side as righ
 ghost use Rattle.fd_rowcert.specs.Equations.{AreEquations, HaveCoefficients, Tells, first_wide, radii_in};
 
 use crate::entries::row_entries;
-use fd_cert::Matrix;
 use fd_bounds::Equation;
+use fd_cert::Matrix;
 use std::alloc::{AllocError, Global};
 
 // Twice a whole unit of a mismatch, in units of 2^-20: a state and its centre may each be off by one.

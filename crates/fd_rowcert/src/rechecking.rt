@@ -11,8 +11,8 @@ ghost use Rattle.fd_rowcert.specs.Rechecks.{IsFirst, IsFirstOfState, IsRechecked
 use crate::broken::BrokenRow;
 use crate::ranges::{first_far, first_high, first_large, first_narrow, has_size, is_box, refused};
 use crate::state::{InBox, state_equations};
-use fd_cert::{Ball, Certified, DerivedRows, NetworkRows, Support, first_untrue, row_mismatches};
 use fd_bounds::{Equation, check};
+use fd_cert::{Ball, Certified, DerivedRows, NetworkRows, Support, first_untrue, row_mismatches};
 use std::alloc::{AllocError, Global};
 
 // The first rule that the numbers of a claim on so many unknowns break.

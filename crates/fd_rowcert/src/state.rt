@@ -11,8 +11,8 @@ ghost use Rattle.fd_cert.specs.fd_enclosure.fd_pattern.Conditions.{IsPoint};
 ghost use Rattle.fd_rowcert.specs.Equations.{AreEquationsOf, EndsBy, HaveCoefficients, HaveNumbersOf, Tells, first_wide, first_wide_slopes, radii_by};
 
 use crate::equations::{equations_of, set_radii};
-use fd_cert::{Matrix, NetworkRows, half_widths, radii_at};
 use fd_bounds::Equation;
+use fd_cert::{Matrix, NetworkRows, half_widths, radii_at};
 use std::alloc::{AllocError, Global};
 
 /// The equations of a state, and the half-widths of the box in which they have their radii.

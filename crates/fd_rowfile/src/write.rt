@@ -78,7 +78,6 @@ fn push_acts(alloc: Global, records: &mut Vec<Record>, acts: &[Act]) -> Result<(
 ///
 /// # Errors
 /// `AllocError` where memory is refused.
-#[allow(clippy::too_many_arguments)]
 pub fn write_block(
     alloc: Global,
     number: u32,
