@@ -38,13 +38,9 @@ pub(crate) fn next_head(bytes: &[u8]) -> Option<(Head, &[u8])>
     ensures some { IfSome result (λ p. first_at head_in (lines_of bytes.now) ≡ Ok (head p.0, lines_of p.1.now)) }
     ensures none { IfNone result (first_at head_in (lines_of bytes.now) ≡ Err (lines_of bytes.now)) }
 {
-    match next_line(bytes) {
-        Some((line, more)) => match head_of(&line) {
-            Some(head) => Some((head, more)),
-            None => None,
-        },
-        None => None,
-    }
+    let (line, more) = next_line(bytes)?;
+    let head = head_of(&line)?;
+    Some((head, more))
 }
 
 fn box_of(line: &Line<'_>) -> Option<i128>
@@ -62,35 +58,24 @@ pub(crate) fn next_box(bytes: &[u8]) -> Option<(i128, &[u8])>
     ensures some { IfSome result (λ p. first_at box_in (lines_of bytes.now) ≡ Ok (p.0, lines_of p.1.now)) }
     ensures none { IfNone result (first_at box_in (lines_of bytes.now) ≡ Err (lines_of bytes.now)) }
 {
-    match next_line(bytes) {
-        Some((line, more)) => match box_of(&line) {
-            Some(divisor) => Some((divisor, more)),
-            None => None,
-        },
-        None => None,
-    }
+    let (line, more) = next_line(bytes)?;
+    let divisor = box_of(&line)?;
+    Some((divisor, more))
 }
 
 fn part_of(place: u128, line: &Line<'_>) -> Option<Part>
     ensures { option_map part result ≡ part_at place (view line.now) }
 {
-    match fields_by(line, b"x") {
-        Some(fields) => match four(fields) {
-            Some((number, centre, radius, mismatch)) => {
-                if is_place(place, number) {
-                    Some(Part {
-                        centre,
-                        radius,
-                        mismatch,
-                    })
-                } else {
-                    None
-                }
-            }
-            None => None,
-        },
-        None => None,
+    let fields = fields_by(line, b"x")?;
+    let (number, centre, radius, mismatch) = four(fields)?;
+    if !is_place(place, number) {
+        return None;
     }
+    Some(Part {
+        centre,
+        radius,
+        mismatch,
+    })
 }
 
 /// The unknown at this place, and the bytes behind its line.
@@ -99,31 +84,20 @@ pub(crate) fn next_part(place: u128, bytes: &[u8]) -> Option<(Part, &[u8])>
     ensures some { IfSome result (λ p. first_at (part_at place) (lines_of bytes.now) ≡ Ok (part p.0, lines_of p.1.now)) }
     ensures none { IfNone result (first_at (part_at place) (lines_of bytes.now) ≡ Err (lines_of bytes.now)) }
 {
-    match next_line(bytes) {
-        Some((line, more)) => match part_of(place, &line) {
-            Some(part) => Some((part, more)),
-            None => None,
-        },
-        None => None,
-    }
+    let (line, more) = next_line(bytes)?;
+    let part = part_of(place, &line)?;
+    Some((part, more))
 }
 
 fn bound_of(place: u128, line: &Line<'_>) -> Option<Bound>
     ensures { option_map bound result ≡ bound_at place (view line.now) }
 {
-    match fields_by(line, b"bound") {
-        Some(fields) => match three(fields) {
-            Some((number, row, bound)) => {
-                if is_place(place, number) {
-                    Some(Bound { row, bound })
-                } else {
-                    None
-                }
-            }
-            None => None,
-        },
-        None => None,
+    let fields = fields_by(line, b"bound")?;
+    let (number, row, bound) = three(fields)?;
+    if !is_place(place, number) {
+        return None;
     }
+    Some(Bound { row, bound })
 }
 
 /// The bound at this place, and the bytes behind its line.
@@ -132,13 +106,9 @@ pub(crate) fn next_bound(place: u128, bytes: &[u8]) -> Option<(Bound, &[u8])>
     ensures some { IfSome result (λ p. first_at (bound_at place) (lines_of bytes.now) ≡ Ok (bound p.0, lines_of p.1.now)) }
     ensures none { IfNone result (first_at (bound_at place) (lines_of bytes.now) ≡ Err (lines_of bytes.now)) }
 {
-    match next_line(bytes) {
-        Some((line, more)) => match bound_of(place, &line) {
-            Some(bound) => Some((bound, more)),
-            None => None,
-        },
-        None => None,
-    }
+    let (line, more) = next_line(bytes)?;
+    let bound = bound_of(place, &line)?;
+    Some((bound, more))
 }
 
 fn act_of(line: &Line<'_>) -> Option<Act>
@@ -163,11 +133,7 @@ pub(crate) fn next_act(bytes: &[u8]) -> Option<(Act, &[u8])>
     ensures some { IfSome result (λ p. first_at act_in (lines_of bytes.now) ≡ Ok (act p.0, lines_of p.1.now)) }
     ensures none { IfNone result (first_at act_in (lines_of bytes.now) ≡ Err (lines_of bytes.now)) }
 {
-    match next_line(bytes) {
-        Some((line, more)) => match act_of(&line) {
-            Some(act) => Some((act, more)),
-            None => None,
-        },
-        None => None,
-    }
+    let (line, more) = next_line(bytes)?;
+    let act = act_of(&line)?;
+    Some((act, more))
 }
